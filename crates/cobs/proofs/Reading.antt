@@ -1,16 +1,17 @@
 -- A body group by group: induction over its codes, the equations of `read`, which hide its count, and the round trip. Assumes nothing.
 use mathlib.Core.Path.{_≡_, refl, sym, ap, _∙_, subst}
-use mathlib.Core.Bool.{Bool, true, false}
+use mathlib.Core.Bool.{Bool, true, false, true≢false}
 use mathlib.Core.List.{List, [], _∷_, _++_, append-nil, append-assoc}
 use Prim.Native.Nat.{ℕ, zero, suc, pred, _+_, _≤_, _<_, zero-le, suc-le-suc}
-use native.Mathlib.Nat.{not-suc-le-zero, le-refl}
+use native.Mathlib.Nat.{not-suc-le-zero, le-refl, suc-add}
 use native.Mathlib.Decide.{decLt}
 use native.Mathlib.Omega.{arith}
 use lib.ListN.{length, take, drop, length-append, take-append-drop}
 use lib.Dec.{eqb}
-use lib.Seq.{length-take-le, take-at, drop-at, drop-length}
+use lib.Seq.{length-take-le, take-at, drop-at, drop-length, drop-append-add}
 use borrow.Author.Tests.{ne-eqb, lt-ltb, le-ltb}
-use Rattle.cobs.specs.Code.{encode, cut, ended, onto, zeroAfter, readIn, read}
+use Rattle.cobs.specs.Code.{NoZero, encode, cut, ended, onto, zeroAfter, readIn, read}
+use Rattle.cobs.proofs.Runs.{no-zero-back}
 use Rattle.cobs.proofs.Groups.{by-groups, encode-last, encode-full, encode-cut}
 use Rattle.cobs.proofs.Encoding.{encode-nonempty}
 
@@ -147,6 +148,27 @@ read-fewer =
     (λ c r h d s ih k.
     rw (read-more c r h d s)
     (omega (arith, ih (suc-le-suc zero-le), length-append r (d ∷ s), length-append (r ++ zeroAfter c) (read (d ∷ s) .groups), length-append r (zeroAfter c), zeroAfter-le c)))
+
+-- ---- the offset of a short group: there its code stands, with too few bytes after it
+
+abbrev ShortAt : List ℕ → Type 0
+ShortAt b = NoZero b → 0 < length b → read b .whole ≡ false
+    → (c : ℕ) × ((drop (read b .offset) b ≡ c ∷ read b .short) × (length (read b .short) < pred c))
+
+short-more : (c : ℕ) (r : List ℕ) → length r ≡ pred c → (d : ℕ) (s : List ℕ) → ShortAt (d ∷ s) → ShortAt (c ∷ (r ++ d ∷ s))
+short-more zero r k d s ih z h e = absurd (not-suc-le-zero (z .0))
+short-more (suc n) r k d s ih z h e =
+    let w : read (d ∷ s) .whole ≡ false = rw (read-more (suc n) r k d s) at e in
+    let t = ih (no-zero-back r (d ∷ s) (z .1)) (suc-le-suc zero-le) w in
+    rw (read-more (suc n) r k d s, w)
+    (t .0, (ap (λ (m : ℕ). drop m (suc n ∷ (r ++ d ∷ s))) (suc-add n (read (d ∷ s) .offset)) ∙ ap (λ (m : ℕ). drop (m + read (d ∷ s) .offset) (r ++ d ∷ s)) (sym k) ∙ drop-append-add r (d ∷ s) (read (d ∷ s) .offset) ∙ t .1 .0, t .1 .1))
+
+pub read-offset : (b : List ℕ) → ShortAt b
+read-offset =
+    by-codes ShortAt (λ z h e. absurd (not-suc-le-zero h))
+    (λ c s l z h e. rw (read-short c s l) (c, (refl, l)))
+    (λ c r k z h e. absurd (true≢false (rw (read-last c r k) at e)))
+    short-more
 
 -- ---- a closing 01 after a last full group
 

@@ -36,11 +36,12 @@ encodeIn (suc n) m = group (encodeIn n) (eqb (length (run 254 m)) 254) (run 254 
 unfoldable pub encode : List ℕ → List ℕ
 encode m = encodeIn (suc (length m)) m
 
--- n plus n/254 rounded up, or 1 for n = 0.
+-- What the encoding of n bytes adds at most: n/254 rounded up, or 1 for n = 0.
 abbrev pub overhead : ℕ → ℕ
 overhead zero = 1
 overhead (suc n) = (suc n + 253) / 254
 
+-- How long it is at most.
 abbrev pub maxLength : ℕ → ℕ
 maxLength n = n + overhead n
 
