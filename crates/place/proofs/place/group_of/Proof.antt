@@ -1,0 +1,17 @@
+-- `place::place::group_of` meets its contract. Assumes nothing.
+use borrow.Author.Tests.{lt-ltb, le-ltb}
+use borrow.Author.Needs.{needs}
+use Rattle.place.proofs.place.group_of.Statement.{statement}
+use Rattle.place.proofs.place.group_of.Tie as tie
+
+returns : tie.Need-returns
+returns c = simp (lt-ltb _ _ (c .if1 .taken))
+
+sub-t5 : tie.Need-sub-t5
+sub-t5 c = search needs
+
+returns-2 : tie.Need-returns-2
+returns-2 c = simp (le-ltb _ _ (c .if1 .left))
+
+pub group-of-spec : {M : Type 1} → statement M
+group-of-spec = tie.close (tie.spec returns sub-t5 returns-2)

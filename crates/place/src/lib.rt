@@ -1,0 +1,3 @@
+//! Decoding in place, group by group, and with a chosen sentinel.
+pub mod place;
+pub mod sentinel;
