@@ -1,0 +1,49 @@
+-- `batch::state::as_answer` meets its contract. Assumes nothing.
+use borrow.Author.Needs.{needs}
+use Rattle.batch.proofs.state.as_answer.Statement.{statement}
+use Rattle.batch.proofs.state.as_answer.Tie as tie
+
+enum-told : tie.Need-enum-told
+enum-told c = search needs
+
+enum-told-2 : tie.Need-enum-told-2
+enum-told-2 c = search needs
+
+enum-known-standing : tie.Need-enum-known-standing
+enum-known-standing c = search needs
+
+enum-told-3 : tie.Need-enum-told-3
+enum-told-3 c = search needs
+
+enum-told-4 : tie.Need-enum-told-4
+enum-told-4 c = search needs
+
+returns : tie.Need-returns
+returns c = search needs
+
+returns-2 : tie.Need-returns-2
+returns-2 c = search needs
+
+returns-3 : tie.Need-returns-3
+returns-3 c = cc
+
+returns-4 : tie.Need-returns-4
+returns-4 c = search needs
+
+returns-5 : tie.Need-returns-5
+returns-5 c = search needs
+
+pub as-answer-spec : {M : Type 1} → statement M
+as-answer-spec =
+    tie.close
+    (tie.spec
+    enum-told
+    enum-told-2
+    enum-known-standing
+    enum-told-3
+    enum-told-4
+    returns
+    returns-2
+    returns-3
+    returns-4
+    returns-5)

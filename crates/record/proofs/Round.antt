@@ -1,0 +1,205 @@
+-- The round trip: a record that is written is read back, and one that is read is written back the same. Assumes nothing.
+use mathlib.Core.Path.{_≡_, refl, sym, ap, ap₂, _∙_}
+use mathlib.Core.Bool.{Bool, true, false}
+use mathlib.Core.List.{List, [], _∷_, _++_}
+use Prim.Native.Nat.{ℕ, suc, _+_, _-_, _*_, _/_, _%_, _≤_, _<_}
+use native.Mathlib.Nat.{zero-add, add-mul-mod-self-left, add-mul-div-left, mod-eq-of-lt, div-eq-of-lt}
+use native.Mathlib.Decide.{decLt}
+use native.Mathlib.Omega.{arith}
+use lib.IntN.{ℤ, pos, negsuc}
+use lib.ListN.{length, getD, take, drop}
+use lib.Seq.{drop-cons}
+use lib.Signed.{mag}
+use Rattle.cobs.specs.Words.{if_then_else_}
+use Rattle.cobs.specs.Answers.{done, badRecord}
+use Rattle.cobs.proofs.Told.{unlike}
+use Rattle.record.specs.Record.{bytes16, bytes32, bits, signed, fieldsOf, bytesOf, fieldsFor, recordIn, isValid, writeTold, writtenBytes, readOf}
+use Rattle.record.specs.declared.Fields.{Fields}
+use Rattle.record.specs.declared.Record.{Record}
+use Rattle.record.specs.declared.Record.the-variants.{Particle, Close}
+use Rattle.record.specs.declared.ReadAnswer.the-variants.{Good, BadRecord}
+use Rattle.record.proofs.Signs.{bits-small, signed-low, signed-high}
+use Rattle.record.proofs.Valid.{Valid, valid-says}
+use Rattle.record.proofs.Valid as valid
+
+-- ---- numbers and their bytes
+
+two : (n : ℕ) → n < 65536 → n % 256 + 256 * (n / 256 % 256) ≡ n
+two n h = omega arith
+
+four : (n : ℕ) → n < 4294967296
+    → n % 65536 % 256 + 256 * (n % 65536 / 256 % 256) + 65536 * (n / 65536 % 256 + 256 * (n / 65536 / 256 % 256)) ≡ n
+four n h = omega (arith, two (n % 65536) (omega arith), two (n / 65536) (omega arith))
+
+low : (m a b : ℕ) → a < m → (a + m * b) % m ≡ a
+low m a b h = add-mul-mod-self-left a m b ∙ mod-eq-of-lt h
+
+high : (m a b : ℕ) → a < m → (a + m * b) / m ≡ b
+high m a b h = add-mul-div-left a b (omega arith) ∙ (ap (λ (x : ℕ). x + b) (div-eq-of-lt h) ∙ zero-add b)
+
+two-bytes : (a b : ℕ) → a < 256 → b < 256 → bytes16 (a + 256 * b) ≡ a ∷ b ∷ []
+two-bytes a b h k = rw (low 256 a b h, high 256 a b h, mod-eq-of-lt k)
+
+four-bytes : (a b c d : ℕ) → a < 256 → b < 256 → c < 256 → d < 256
+    → bytes32 (a + 256 * b + 65536 * (c + 256 * d)) ≡ a ∷ b ∷ c ∷ d ∷ []
+four-bytes a b c d ha hb hc hd =
+    ap₂ (λ (x y : ℕ). bytes16 x ++ bytes16 y)
+    (low 65536 (a + 256 * b) (c + 256 * d) (omega arith)) (high 65536 (a + 256 * b) (c + 256 * d) (omega arith))
+    ∙ ap₂ (λ (x y : List ℕ). x ++ y) (two-bytes a b ha hb) (two-bytes c d hc hd)
+
+-- ---- numbers and their 16 bits
+
+signed-bits : (x : ℤ) → mag x < 32768 → signed (bits x) ≡ x
+signed-bits (pos n) h = signed-low n h
+signed-bits (negsuc n) h =
+    signed-high (65536 - suc n) (omega arith) ∙ ap negsuc {x = 65536 - suc (65536 - suc n)} {y = n} (omega arith)
+
+bits-signed : (n : ℕ) → n < 65536 → bits (signed n) ≡ n
+bits-signed n h =
+    elim (decLt n 32768) [
+      | yes l ↦ ap bits (signed-low n l)
+      | no l ↦ ap bits (signed-high n (omega arith)) ∙ omega arith
+    ]
+
+-- ---- from a record to its bytes and back
+
+-- Each number is one that its field can hold.
+pub data Holds : Record → Type 0 where
+  particle : (batch index : ℕ) (x y z : ℤ) (weight : ℕ) → batch < 65536 → index < 65536
+      → mag x < 32768 → mag y < 32768 → mag z < 32768 → weight < 4294967296 → Holds (Particle batch index x y z weight)
+  close : (batch count total : ℕ) → batch < 65536 → count < 65536 → total < 4294967296 → Holds (Close batch count total)
+
+record Small (f : Fields) : Type 0 where
+  batch : f .batch < 65536
+  index : f .index < 65536
+  x : f .x < 65536
+  y : f .y < 65536
+  z : f .z < 65536
+  weight : f .weight < 4294967296
+
+fields-bytes : (f : Fields) (t : List ℕ) → Small f → fieldsOf (bytesOf f ++ t) ≡ f
+unfolding fieldsOf bytesOf
+fields-bytes f t h =
+    rw (two (f .batch) (h .batch), two (f .index) (h .index), two (f .x) (h .x), two (f .y) (h .y), two (f .z) (h .z), four (f .weight) (h .weight))
+
+small : {r : Record} → Holds r → Small (fieldsFor 0 r)
+unfolding fieldsFor
+small (particle b i x y z w hb hi hx hy hz hw) =
+    record { batch = hb; index = hi; x = bits-small x hx; y = bits-small y hy; z = bits-small z hz; weight = hw }
+small (close b n t hb hn ht) = record { batch = hb; index = hn; x = omega arith; y = omega arith; z = omega arith; weight = ht }
+
+record-fields : {r : Record} → Holds r → recordIn (fieldsFor 0 r) ≡ r
+unfolding fieldsFor recordIn
+record-fields (particle b i x y z w hb hi hx hy hz hw) = simp (signed-bits x hx, signed-bits y hy, signed-bits z hz)
+record-fields (close b n t hb hn ht) = refl
+
+was-valid : (ok : Bool) → (if ok then done 0 0 else badRecord 0) ≡ done 0 0 → ok ≡ true
+was-valid true e = refl
+was-valid false e = absurd (unlike e (omega arith))
+
+pub read-written : (r : Record) (t : List ℕ) → Holds r → writeTold 0 r ≡ done 0 0 → readOf 0 (writtenBytes 0 r ++ t) ≡ Good r
+unfolding writeTold writtenBytes readOf
+read-written r t h e =
+    let ok : isValid 0 (fieldsFor 0 r) ≡ true = was-valid (isValid 0 (fieldsFor 0 r)) e in
+    rw (ok, fields-bytes (fieldsFor 0 r) t (small h), ok, record-fields h)
+
+-- ---- from the bytes to a record and back
+
+pub read-says : (s : List ℕ) (r : Record) → readOf 0 s ≡ Good r → (isValid 0 (fieldsOf s) ≡ true) × (recordIn (fieldsOf s) ≡ r)
+unfolding readOf
+read-says s r e = go (isValid 0 (fieldsOf s)) refl e
+  where
+    go : (ok : Bool) → isValid 0 (fieldsOf s) ≡ ok → (if ok then Good (recordIn (fieldsOf s)) else BadRecord) ≡ Good r
+        → (ok ≡ true) × (recordIn (fieldsOf s) ≡ r)
+    go true q e = (refl, cc)
+    go false q e = let z : _≡_ {A = ℕ} 0 1 = cc in absurd (omega arith)
+
+alike : (f : Fields) (x y z k b : ℕ) → x ≡ f .x → y ≡ f .y → z ≡ f .z → k ≡ f .kind → b ≡ f .board
+    → _≡_ {A = Fields} (record { batch = f .batch; index = f .index; x = x; y = y; z = z; kind = k; board = b; weight = f .weight }) f
+alike f x y z k b ex ey ez ek eb = simp (ex, ey, ez, ek, eb)
+
+fields-record : (f : Fields) → Small f → Valid f → fieldsFor 0 (recordIn f) ≡ f
+unfolding fieldsFor recordIn
+fields-record f h (valid.particle b k w) =
+    simp k
+    (alike f (bits (signed (f .x))) (bits (signed (f .y))) (bits (signed (f .z))) 1 0
+    (bits-signed (f .x) (h .x)) (bits-signed (f .y) (h .y)) (bits-signed (f .z) (h .z)) (sym k) (sym b))
+fields-record f h (valid.close b k n x y z) = simp k (alike f 0 0 0 2 0 (sym x) (sym y) (sym z) (sym k) (sym b))
+
+-- Each byte is one.
+abbrev pub Bytes : List ℕ → Type 0
+Bytes s = (k : ℕ) → getD s k 0 < 256
+
+small-fields : (s : List ℕ) → Bytes s → Small (fieldsOf s)
+unfolding fieldsOf
+small-fields s h =
+    record {
+      batch = omega (arith, h 0, h 1);
+      index = omega (arith, h 2, h 3);
+      x = omega (arith, h 4, h 5);
+      y = omega (arith, h 6, h 7);
+      z = omega (arith, h 8, h 9);
+      weight = omega (arith, h 12, h 13, h 14, h 15);
+    }
+
+step : (s : List ℕ) (n k : ℕ) → k < length s → take (suc n) (drop k s) ≡ getD s k 0 ∷ take n (drop (suc k) s)
+step s n k h = rw (drop-cons s k 0 h)
+
+sixteen : (s : List ℕ) → 16 ≤ length s → take 16 s ≡
+    getD s 0 0 ∷ getD s 1 0 ∷ getD s 2 0 ∷ getD s 3 0 ∷ getD s 4 0 ∷ getD s 5 0 ∷ getD s 6 0 ∷ getD s 7 0
+    ∷ getD s 8 0 ∷ getD s 9 0 ∷ getD s 10 0 ∷ getD s 11 0 ∷ getD s 12 0 ∷ getD s 13 0 ∷ getD s 14 0 ∷ getD s 15 0 ∷ []
+sixteen s h =
+    rw (
+      step s 15 0 (omega arith),
+      step s 14 1 (omega arith),
+      step s 13 2 (omega arith),
+      step s 12 3 (omega arith),
+      step s 11 4 (omega arith),
+      step s 10 5 (omega arith),
+      step s 9 6 (omega arith),
+      step s 8 7 (omega arith),
+      step s 7 8 (omega arith),
+      step s 6 9 (omega arith),
+      step s 5 10 (omega arith),
+      step s 4 11 (omega arith),
+      step s 3 12 (omega arith),
+      step s 2 13 (omega arith),
+      step s 1 14 (omega arith),
+      step s 0 15 (omega arith),
+    )
+
+bytes-fields : (s : List ℕ) → Bytes s → 16 ≤ length s → bytesOf (fieldsOf s) ≡ take 16 s
+unfolding bytesOf fieldsOf
+bytes-fields s h l =
+    ap₂ (λ (a b : List ℕ). a ++ b) (two-bytes (getD s 0 0) (getD s 1 0) (h 0) (h 1))
+    (ap₂ (λ (a b : List ℕ). a ++ b) (two-bytes (getD s 2 0) (getD s 3 0) (h 2) (h 3))
+    (ap₂ (λ (a b : List ℕ). a ++ b) (two-bytes (getD s 4 0) (getD s 5 0) (h 4) (h 5))
+    (ap₂ (λ (a b : List ℕ). a ++ b) (two-bytes (getD s 6 0) (getD s 7 0) (h 6) (h 7))
+    (ap₂ (λ (a b : List ℕ). a ++ b) (two-bytes (getD s 8 0) (getD s 9 0) (h 8) (h 9))
+    (ap (λ (a : List ℕ). getD s 10 0 ∷ getD s 11 0 ∷ a)
+    (four-bytes (getD s 12 0) (getD s 13 0) (getD s 14 0) (getD s 15 0) (h 12) (h 13) (h 14) (h 15)))))))
+    ∙ sym (sixteen s l)
+
+pub written-read : (s : List ℕ) (r : Record) → Bytes s → 16 ≤ length s → readOf 0 s ≡ Good r
+    → (writeTold 0 r ≡ done 0 0) × (writtenBytes 0 r ≡ take 16 s)
+unfolding writeTold writtenBytes
+written-read s r h l e =
+    let ok = read-says s r e in
+    let same : fieldsFor 0 r ≡ fieldsOf s =
+    ap (fieldsFor 0) (sym (ok .1)) ∙ fields-record (fieldsOf s) (small-fields s h) (valid-says (fieldsOf s) (ok .0)) in
+    (rw (same, ok .0), rw (same, ok .0) (bytes-fields s h l))
+
+-- a particle that is read weighs no more than it may
+pub read-weight : (s : List ℕ) {b i : ℕ} {x y z : ℤ} {w : ℕ} → readOf 0 s ≡ Good (Particle b i x y z w) → w ≤ 1000000
+unfolding recordIn
+read-weight s {b} {i} {x} {y} {z} {w} e = go (fieldsOf s) (valid-says (fieldsOf s) (read-says s (Particle b i x y z w) e .0)) (read-says s (Particle b i x y z w) e .1)
+  where
+    go : (f : Fields) → Valid f → recordIn f ≡ Particle b i x y z w → w ≤ 1000000
+    go f (valid.particle ok k light) q =
+        let p = simp k at q in
+        let same : f .weight ≡ w = cc in
+        omega arith
+    go f (valid.close ok k n x0 y0 z0) q =
+        let p = simp k at q in
+        let never : _≡_ {A = ℕ} 0 1 = cc in
+        absurd (omega arith)
