@@ -1,0 +1,149 @@
+-- The receiver over frames of one batch: each is taken whole, and what it then answers and shows is what is due.
+-- Assumes nothing.
+use mathlib.Core.Path.{_≡_, refl, sym, ap, ap₂, _∙_, subst}
+use mathlib.Core.Bool.{false}
+use mathlib.Core.List.{List, [], _∷_, _++_, append-assoc, append-nil}
+use Prim.Native.Nat.{ℕ, suc, _+_, _-_, _*_, _/_, _%_, _≤_, _<_}
+use native.Mathlib.Nat.{suc-mul}
+use native.Mathlib.Omega.{arith}
+use lib.Dec.{ltb}
+use lib.ListN.{length, length-append}
+use lib.Seq.{drop-at}
+use borrow.Author.Tests.{eq-eqb, ne-eqb, le-ltb, ltb-false}
+use Rattle.cobs.specs.Words.{if_then_else_}
+use Rattle.cobs.specs.Answers.{Told}
+use Rattle.marks.specs.Marks.{marked, markedBelow, countBelow}
+use Rattle.marks.proofs.Counts.{count-same, count-add, count-both, count-none, all-counted}
+use Rattle.record.specs.Record.{bytesOf, writtenBytes}
+use Rattle.record.specs.Frame.{isBadLength}
+use Rattle.batch.specs.State.{markedIn, standTold, standsTold}
+use Rattle.batch.specs.Verdict.{verdict, after, stored}
+use Rattle.batch.specs.Frame.{taken, takeAll, outcome, acceptTold, acceptNext, acceptTable}
+use Rattle.batch.specs.declared.Receiver.{Receiver}
+use Rattle.batch.proofs.Good.{Good, not-bad, good-all}
+use Rattle.batch.proofs.Effects.{stored-length}
+use Rattle.dec.proofs.Cases.{by-bool}
+use Rattle.wire.specs.Receive.{End, Seen, accepting}
+use Rattle.wire.specs.Batch.{Batch, count, particleAt, weightAt, total, InRange, Item, recordOf, message, IsOf, AllOf, Frame, Frames, messages, has, hasClose, arrivedCount, arrivedTotal, due, expected, expectedAll}
+use Rattle.wire.proofs.Frames.{saidTo}
+use Rattle.wire.proofs.Sums.{sum-same, has-none, all-of-append}
+use Rattle.wire.proofs.Arrived.{Held, takes, written}
+
+pub good-length : (m : ℕ) → 1 ≤ m → m ≤ 15 → isBadLength 16 240 (m * 16) ≡ false
+unfolding isBadLength
+good-length m some most =
+    rw (ne-eqb (m * 16) 0 (λ e. omega arith), le-ltb 240 (m * 16) (omega arith), eq-eqb (m * 16 % 16) 0 (omega arith))
+
+module _ (b : Batch) (numbered : b .number < 65536) (few : count b ≤ 4096) (ranges : (i : ℕ) → i < count b → InRange (particleAt b i)) where
+  -- ---- the bytes of a frame
+
+  pub record-long : (item : Item) → IsOf b item → length (writtenBytes 0 (recordOf b item)) ≡ 16
+  unfolding writtenBytes bytesOf
+  record-long item h = rw (written b numbered few ranges item h)
+
+  pub message-long : (f : List Item) → AllOf b f → length (message b f) ≡ length f * 16
+  unfolding message
+  message-long [] h = refl
+  message-long (item ∷ f) h =
+      length-append (writtenBytes 0 (recordOf b item)) (message b f)
+      ∙ omega (arith, record-long item (h .0), message-long f (h .1), suc-mul (length f) 16)
+
+  module _ (n : ℕ) (slotted : count b * 16 ≤ n) where
+    abbrev Holding : List Item → Receiver → Type 0
+    Holding = Held b numbered few ranges n
+
+    -- ---- a frame's records, one after another
+
+    record TookAll (k : ℕ) (l f : List Item) (r : Receiver) (t : List ℕ) : Type 0 where
+      receiver : Receiver
+      table : List ℕ
+      took : takeAll (length f) k r t (message b f) ≡ taken receiver table
+      holds : Holding (l ++ f) receiver
+      long : length table ≡ length t
+
+    take-all : (f : List Item) → AllOf b f → (k : ℕ) (l : List Item) → AllOf b l → (r : Receiver) → Holding l r → (t : List ℕ) → TookAll k l f r t
+    unfolding takeAll message
+    take-all [] a k l c r h t = record { receiver = r; table = t; took = refl; holds = subst (λ (x : List Item). Holding x r) (sym (append-nil l)) h; long = refl }
+    take-all (item ∷ f) a k l c r h t =
+        let s : List ℕ = writtenBytes 0 (recordOf b item) ++ message b f in
+        let o = takes b numbered few ranges n slotted l r h k t item (a .0) c (message b f) in
+        let go = take-all f (a .1) (suc k) (l ++ item ∷ []) (all-of-append b l (item ∷ []) c (a .0, tt)) (after (o .effect) r) (o .held) (stored (o .effect) t s) in
+        record {
+          receiver = go .receiver;
+          table = go .table;
+          took = rw (o .verdict, drop-at (writtenBytes 0 (recordOf b item)) (message b f) 16 (record-long item (a .0))) (go .took);
+          holds = subst (λ (x : List Item). Holding x (go .receiver)) (append-assoc l (item ∷ []) f) (go .holds);
+          long = go .long ∙ stored-length (o .effect) t s;
+        }
+
+    -- ---- how the batch then stands
+
+    module _ (l : List Item) (a : AllOf b l) (r : Receiver) (h : Holding l r) where
+      marked-count : markedIn r ≡ arrivedCount b l
+      unfolding markedBelow
+      marked-count =
+          count-same (marked (r .marks)) (λ i. has i l) 4096 (λ j k. h .marks j)
+          ∙ ap (countBelow (λ i. has i l)) {x = 4096} {y = count b + (4096 - count b)} (omega arith)
+          ∙ count-add (λ i. has i l) (count b) (4096 - count b)
+          ∙ omega (arith, count-none (λ s. has (count b + s) l) (4096 - count b) (λ j k. has-none b l a (count b + j) (omega arith)))
+
+      -- all N arrived: the whole weight
+      all-weigh : count b ≤ arrivedCount b l → arrivedTotal b l ≡ total b
+      all-weigh q =
+          let e : arrivedCount b l ≡ count b = omega (arith, count-both (λ i. has i l) (count b)) in
+          sum-same (λ i. if has i l then weightAt b i else 0) (weightAt b) (count b) (λ j k. rw (all-counted (λ i. has i l) (count b) e j k))
+
+      stands-due : standTold r ≡ due b l
+      unfolding standTold
+      stands-due =
+          rw (marked-count, h .close, h .total)
+          (by-bool (hasClose l)
+          (λ e.
+          rw e
+          (by-bool (ltb (arrivedCount b l) (count b)) (λ m. rw m)
+          (λ m. rw (m, eq-eqb (arrivedTotal b l) (total b) (all-weigh (ltb-false (arrivedCount b l) (count b) m))))))
+          (λ e. rw e))
+
+    -- ---- a whole frame
+
+    stands-good : (r : Receiver) → Good r n → standsTold r n ≡ standTold r
+    unfolding standsTold
+    stands-good r g = rw (not-bad r n g)
+
+    record Accepts (l f : List Item) (e : End) : Type 0 where
+      says : accepting .says e (message b f) ≡ due b (l ++ f)
+      shows : accepting .shows (accepting .after e (message b f)) ≡ expected b (l ++ f) .shown
+      holds : Holding (l ++ f) (accepting .after e (message b f) .receiver)
+      good : Good (accepting .after e (message b f) .receiver) n
+      long : length (accepting .after e (message b f) .table) ≡ n
+
+    accepts : (l : List Item) → AllOf b l → (f : List Item) → Frame b f → (e : End) → Holding l (e .receiver) → Good (e .receiver) n → length (e .table) ≡ n → Accepts l f e
+    unfolding outcome acceptTold acceptNext acceptTable
+    accepts l a f g e h q long =
+        let m : length (message b f) ≡ length f * 16 = message-long f (g .ours) in
+        let t = take-all f (g .ours) 0 l a (e .receiver) h (e .table) in
+        let c : length f * 16 / 16 ≡ length f = omega arith in
+        let o : outcome (e .receiver) (e .table) (message b f) ≡ taken (t .receiver) (t .table) =
+        rw (long, not-bad (e .receiver) n q, m, good-length (length f) (g .some) (g .most), c) (t .took) in
+        let all : AllOf b (l ++ f) = all-of-append b l f a (g .ours) in
+        let k : Good (t .receiver) n = good-all (length f) 0 (e .receiver) (e .table) (message b f) (t .receiver) (t .table) n (t .took) q in
+        let d : standTold (t .receiver) ≡ due b (l ++ f) = stands-due (l ++ f) all (t .receiver) (t .holds) in
+        record {
+          says = rw o d;
+          shows =
+              rw (o, t .holds .total, marked-count (l ++ f) all (t .receiver) (t .holds), t .long, long, stands-good (t .receiver) k, d);
+          holds = rw o (t .holds);
+          good = rw o k;
+          long = rw o (t .long ∙ long);
+        }
+
+    -- ---- frame after frame
+
+    pub says-expected : (fs : List (List Item)) → Frames b fs → (l : List Item) → AllOf b l → (e : End) → Holding l (e .receiver) → Good (e .receiver) n → length (e .table) ≡ n
+        → saidTo accepting e (messages b fs) ≡ expectedAll b l fs
+    says-expected [] g l a e h q long = refl
+    says-expected (f ∷ fs) g l a e h q long =
+        let c = accepts l a f (g .0) e h q long in
+        ap₂ _∷_
+        (ap₂ (λ (t : Told) (v : Seen). record { answer = t; shown = v }) (c .says) (c .shows))
+        (says-expected fs (g .1) (l ++ f) (all-of-append b l f a (g .0 .ours)) (accepting .after e (message b f)) (c .holds) (c .good) (c .long))

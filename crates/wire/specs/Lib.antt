@@ -1,0 +1,6 @@
+-- What a reader must believe of the wire, in reading order. Definitions only; their laws are in proofs/.
+pub mod Loop
+pub mod Receive
+pub mod Call
+pub mod Batch
+pub mod Demand3
