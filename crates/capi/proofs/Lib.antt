@@ -1,0 +1,2 @@
+-- One result for every exported call.
+pub mod Unique
