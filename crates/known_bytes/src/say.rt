@@ -1,5 +1,7 @@
 //! What a line is made of.
 use libc::STDOUT_FILENO;
+ghost use Prim.Native.Nat.{_+_, _≤_, _<_};
+ghost use lib.ListN.{length};
 
 pub(crate) fn text(words: &[u8]) {
     io::write_all(STDOUT_FILENO, words);
@@ -9,6 +11,49 @@ pub(crate) fn number(n: usize) {
     io::print_decimal(STDOUT_FILENO, n as u64);
 }
 
+pub(crate) fn byte(b: u8) {
+    io::print_hex(STDOUT_FILENO, b as u64, 2);
+}
+
 pub(crate) fn end() {
     text(b"\n");
+}
+
+// How many bytes from `from` on are the same.
+fn same(s: &[u8], from: usize) -> usize
+    requires { ⌜ from < length (now s) ⌝ }
+    ensures { λ r. ⌜ (1 ≤ r) × (from + r ≤ length (now (s .entry))) ⌝ }
+{
+    let b = s[from];
+    let mut n = 1;
+    while n < s.len() - from {
+        if s[from + n] != b {
+            return n;
+        }
+        n += 1;
+    }
+    n
+}
+
+// A byte, or so many of it in a row.
+fn row(b: u8, n: usize) {
+    text(b" ");
+    if 1 < n {
+        number(n);
+        text(b"*");
+    }
+    byte(b);
+}
+
+/// The bytes in hexadecimal, a row of equal ones as its length and the byte; `-` for none.
+pub(crate) fn bytes(s: &[u8]) {
+    if s.len() == 0 {
+        text(b" -");
+    }
+    let mut i = 0;
+    while i < s.len() {
+        let n = same(s, i);
+        row(s[i], n);
+        i += n;
+    }
 }
