@@ -18,7 +18,7 @@ use Rattle.record.specs.Record.{readOf, classOf}
 use Rattle.record.specs.declared.Record.the-variants as kind
 use Rattle.record.specs.declared.ReadAnswer.the-variants as read
 use Rattle.record.specs.declared.Class.the-variants as class
-use Rattle.batch.specs.State.{slotAt, markedIn, limit}
+use Rattle.batch.specs.State.{slotAt, slot, markedIn, limit}
 use Rattle.batch.specs.Verdict.{onParticle, onClose, onRead, verdict, after, stored}
 use Rattle.batch.specs.declared.Receiver.{Receiver}
 use Rattle.batch.specs.declared.Close.the-variants.{Not, Taken}
@@ -96,9 +96,6 @@ slot-before t s p q h k l =
     ∙ ap (λ (x : List ℕ). take 16 (drop q x)) (take-append-drop p t)
 
 -- its slot holds its 16 bytes, and every other slot is as it was
-abbrev pub slot : (t : List ℕ) (i : ℕ) → List ℕ
-slot t i = take 16 (drop (slotAt i) t)
-
 stored-fits : (i w : ℕ) (t s : List ℕ) → slotAt i + 16 ≤ length t → 16 ≤ length s → stored (Store i w) t s ≡ paste t (slotAt i) s 16
 unfolding stored
 stored-fits i w t s h k = copied-fits t (slotAt i) s 0 h k

@@ -1,7 +1,9 @@
 -- 01 "The batch receiver": its state, when that is bad, and how a batch stands. Assumes nothing.
 use mathlib.Core.Bool.{Bool, _||_}
+use mathlib.Core.List.{List}
 use Prim.Native.Nat.{ℕ, _-_, _*_, _/_, min}
 use lib.Dec.{eqb}
+use lib.ListN.{take, drop}
 use Rattle.cobs.specs.Words.{if_then_else_, _exceeds_}
 use Rattle.cobs.specs.Answers.{Told, badState, stillOpen, missing, complete, differs}
 use Rattle.marks.specs.Marks.{noMarks, markedBelow}
@@ -16,6 +18,10 @@ use Rattle.batch.specs.declared.Standing.the-variants.{BadState, Open, M
 -- Where the slot of an index stands in the table.
 abbrev pub slotAt : (index : ℕ) → ℕ
 slotAt index = index * 16
+
+-- Its bytes.
+abbrev pub slot : (table : List ℕ) (index : ℕ) → List ℕ
+slot table index = take 16 (drop (slotAt index) table)
 
 -- How many slots there are in n bytes.
 abbrev pub roomFor : (n : ℕ) → ℕ

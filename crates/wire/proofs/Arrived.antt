@@ -14,12 +14,12 @@ use Rattle.cobs.specs.Answers.{done}
 use Rattle.marks.specs.Marks.{marked, setMark, markedBelow}
 use Rattle.marks.proofs.Marks.{none-marked, set-mark-here, set-mark-other, set-mark-length}
 use Rattle.marks.proofs.Below.{from-none}
-use Rattle.record.specs.Record.{isValid, fieldsFor, writeTold, writtenBytes, readOf, classOf}
+use Rattle.record.specs.Record.{bytesOf, isValid, fieldsFor, writeTold, writtenBytes, readOf, classOf}
 use Rattle.record.specs.declared.ReadAnswer.the-variants as read
 use Rattle.record.specs.declared.Class.the-variants.{Ours}
 use Rattle.record.proofs.Round.{Holds, particle, close, read-written}
 use Rattle.batch.specs.State.{opened, markedIn, limitBy, limit}
-use Rattle.batch.specs.Verdict.{onParticle, onClose, onOurs, onRead, verdict, after}
+use Rattle.batch.specs.Verdict.{onParticle, onClose, onOurs, onRead, verdict, after, stored}
 use Rattle.batch.specs.declared.Receiver.{Receiver}
 use Rattle.batch.specs.declared.Close.{Close}
 use Rattle.batch.specs.declared.Close.the-variants.{Not, Taken}
@@ -29,6 +29,7 @@ use Rattle.batch.specs.declared.judge.Verdict.the-variants.{Take}
 use Rattle.dec.proofs.Cases.{by-bool}
 use Rattle.wire.specs.Batch as wire
 use Rattle.wire.specs.Batch.{Batch, count, particleAt, weightAt, total, InRange, Item, recordOf, IsOf, AllOf, has, hasClose, arrivedTotal}
+use Rattle.wire.proofs.Filled.{Filled, filled-again, filled-new, filled-close}
 use Rattle.wire.proofs.Sums.{sum-same, sum-new, sum-zero, sum-most, has-itself, has-other, has-again, has-close, has-none, hasClose-particle, hasClose-close}
 
 -- ---- the batch's records are valid, and read back
@@ -56,6 +57,10 @@ module _ (b : Batch) (numbered : b .number < 65536) (few : count b ≤ 4096) (ra
 
   pub reads : (item : Item) → IsOf b item → (t : List ℕ) → readOf 0 (writtenBytes 0 (recordOf b item) ++ t) ≡ read.Good (recordOf b item)
   reads item h t = read-written (recordOf b item) t (holds item h) (written item h)
+
+  pub record-long : (item : Item) → IsOf b item → length (writtenBytes 0 (recordOf b item)) ≡ 16
+  unfolding writtenBytes bytesOf
+  record-long item h = rw (written item h)
 
   same-class : classOf (b .number) (b .number) ≡ Ours
   unfolding classOf
@@ -160,27 +165,30 @@ module _ (b : Batch) (numbered : b .number < 65536) (few : count b ≤ 4096) (ra
         pub effect : Effect
         pub verdict : verdict k r t (writtenBytes 0 (recordOf b item) ++ s) ≡ Take effect
         pub held : Held n (l ++ item ∷ []) (after effect r)
+        pub filled : (t₀ : List ℕ) → length t ≡ n → Filled b t₀ l t → Filled b t₀ (l ++ item ∷ []) (stored effect t (writtenBytes 0 (recordOf b item) ++ s))
 
       takes-particle : (k : ℕ) (t : List ℕ) (i : ℕ) → i < count b → (s : List ℕ) → Took k t (wire.particle i) s
-      unfolding onParticle after
+      unfolding onParticle after stored
       takes-particle k t i q s =
           by-bool (has i l)
           (λ e. record {
             effect = effect.Repeat;
             verdict = judged k t (wire.particle i) q s ∙ rw (lt-leb (r .slots) i (omega (arith, enough)), lt-leb (limit r) i (omega (arith, within)), h .marks i ∙ e);
             held = particle-again i e;
+            filled = λ t₀ m f. filled-again b t₀ l t f i e;
           })
           (λ e. record {
             effect = effect.Store i (weightAt b i);
             verdict = judged k t (wire.particle i) q s ∙ rw (lt-leb (r .slots) i (omega (arith, enough)), lt-leb (limit r) i (omega (arith, within)), h .marks i ∙ e);
             held = particle-new i q e;
+            filled = λ t₀ m f. filled-new b t₀ l t f i (weightAt b i) s q (rw m slotted) (record-long (wire.particle i) q);
           })
 
       no-mark-above : AllOf b l → markedIn r ≤ markedBelow (r .marks) (count b)
       no-mark-above a = from-none (r .marks) (count b) 4096 few (λ j low high. h .marks j ∙ has-none b l a j low)
 
       takes-close : (k : ℕ) (t : List ℕ) → AllOf b l → (s : List ℕ) → Took k t wire.close s
-      unfolding onClose after
+      unfolding onClose after stored
       takes-close k t a s =
           by-bool (hasClose l)
           (λ e.
@@ -189,6 +197,7 @@ module _ (b : Batch) (numbered : b .number < 65536) (few : count b ≤ 4096) (ra
             effect = effect.Repeat;
             verdict = judged k t wire.close tt s ∙ rw (le-ltb (r .slots) (count b) enough, c, eq-eqb (count b) (count b) refl, eq-eqb (total b) (total b) refl);
             held = close-held r refl refl refl refl c;
+            filled = λ t₀ m f. filled-close b t₀ l t f;
           })
           (λ e.
           let c : r .close ≡ Not = h .close ∙ ap closeBy e in
@@ -196,6 +205,7 @@ module _ (b : Batch) (numbered : b .number < 65536) (few : count b ≤ 4096) (ra
             effect = effect.Close (count b) (total b);
             verdict = judged k t wire.close tt s ∙ rw (le-ltb (r .slots) (count b) enough, c, le-ltb (markedBelow (r .marks) (count b)) (markedIn r) (no-mark-above a));
             held = close-held (after (effect.Close (count b) (total b)) r) refl refl refl refl refl;
+            filled = λ t₀ m f. filled-close b t₀ l t f;
           })
 
       pub takes : (k : ℕ) (t : List ℕ) (item : Item) → IsOf b item → AllOf b l → (s : List ℕ) → Took k t item s

@@ -17,11 +17,11 @@ use Rattle.wire.specs.Loop.{drive}
 use Rattle.wire.specs.Receive.{End, accepting}
 use Rattle.wire.specs.Batch.{Batch, count, weightAt, Item, message, messages, Frames, has, hasClose, arrivedCount, due}
 use Rattle.wire.specs.Demand3.{Delivery, Premises, started, hand, run, Completes, Demand3}
-use Rattle.wire.proofs.Hands.{drive-same}
-use Rattle.wire.proofs.Frames.{front-more, Within, delivered}
+use Rattle.wire.proofs.Hands.{AlikeTo, drive-same}
+use Rattle.wire.proofs.Frames.{saidTo, afterAll, front-more, Within, delivered}
 use Rattle.wire.proofs.Sums.{sum-same}
 use Rattle.wire.proofs.Arrived.{open-held}
-use Rattle.wire.proofs.Receiving.{message-long, says-expected}
+use Rattle.wire.proofs.Receiving.{message-long, Course, course}
 use Rattle.wire.proofs.Accepting.{Fine, fit, keeps, answers, Like, bads, says, goes, shows}
 
 -- ---- Complete exactly if the close and all N arrived, and then both ends hold equal count and total
@@ -68,26 +68,35 @@ module _ (d : Delivery) (p : Premises d) where
       (q .front)
 
   -- a caller who leaves the table alone
-  abbrev alone : ℕ → End → End
+  abbrev pub alone : ℕ → End → End
   alone k e = e
 
-  hands : (k : ℕ) (s t : End) → Like s t → Like (hand d k s) t
+  pub hands : (k : ℕ) (s t : End) → Like s t → Like (hand d k s) t
   hands k s t l = record { receivers = l .receivers; lengths = p .same k (s .table) ∙ l .lengths }
 
-  unseen : run d .said ≡ drive accepting alone 0 (started d) (d .pieces) .said
+  -- the table's bytes are not seen
+  pub unseen : AlikeTo accepting Like bads says goes shows (hand d) alone hands (run d) (drive accepting alone 0 (started d) (d .pieces))
   unseen =
       drive-same accepting Like bads says goes shows (hand d) alone hands (d .pieces) 0 (started d) (started d)
-      (record { decoders = refl; buffers = refl; states = record { receivers = refl; lengths = refl } }) .said
+      (record { decoders = refl; buffers = refl; states = record { receivers = refl; lengths = refl } })
 
   open-fine : Fine (started d .state)
   unfolding Fine
   open-fine = open-good (d .batch .number) (length (d .table))
 
+  -- what such a caller hears, and what is left
+  pub frames-delivered :
+      (drive accepting alone 0 (started d) (d .pieces) .said ≡ saidTo accepting (started d .state) (messages (d .batch) (d .frames)))
+      × (drive accepting alone 0 (started d) (d .pieces) .side .state ≡ afterAll accepting (started d .state) (messages (d .batch) (d .frames)))
+  frames-delivered =
+      delivered accepting Fine fit keeps answers (messages (d .batch) (d .frames)) (d .buffer) (started d .state) open-fine (frames-within (d .frames) (p .framing)) (d .begun) begun-more (d .pieces) (p .cut)
+
+  pub whole-course : Course (d .batch) (p .numbered) (p .few) (p .ranges) (length (d .table)) (p .slots) [] (d .frames) (started d .state)
+  whole-course =
+      course (d .batch) (p .numbered) (p .few) (p .ranges) (length (d .table)) (p .slots) (d .frames) (p .framing) [] tt (started d .state) (open-held (d .batch) (p .numbered) (p .few) (p .ranges) (length (d .table)) (p .slots)) (open-good (d .batch .number) (length (d .table))) refl
+
   pub demand3 : Demand3 d
   demand3 = record {
-    answers =
-        unseen
-        ∙ delivered accepting Fine fit keeps answers (messages (d .batch) (d .frames)) (d .buffer) (started d .state) open-fine (frames-within (d .frames) (p .framing)) (d .begun) begun-more (d .pieces) (p .cut) .0
-        ∙ says-expected (d .batch) (p .numbered) (p .few) (p .ranges) (length (d .table)) (p .slots) (d .frames) (p .framing) [] tt (started d .state) (open-held (d .batch) (p .numbered) (p .few) (p .ranges) (length (d .table)) (p .slots)) (open-good (d .batch .number) (length (d .table))) refl;
+    answers = unseen .said ∙ frames-delivered .0 ∙ whole-course .says;
     completes = completed (d .batch);
   }

@@ -2,10 +2,12 @@ pub mod Loop
 pub mod Hands
 pub mod Frames
 pub mod Sums
+pub mod Filled
 pub mod Arrived
 pub mod Receiving
 pub mod Accepting
 pub mod Demand3
+pub mod Afterwards
 pub mod Sender
 pub mod Calls
 pub mod Unique

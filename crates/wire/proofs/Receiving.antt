@@ -14,7 +14,7 @@ use Rattle.cobs.specs.Words.{if_then_else_}
 use Rattle.cobs.specs.Answers.{Told}
 use Rattle.marks.specs.Marks.{marked, markedBelow, countBelow}
 use Rattle.marks.proofs.Counts.{count-same, count-add, count-both, count-none, all-counted}
-use Rattle.record.specs.Record.{bytesOf, writtenBytes}
+use Rattle.record.specs.Record.{writtenBytes}
 use Rattle.record.specs.Frame.{isBadLength}
 use Rattle.batch.specs.State.{markedIn, standTold, standsTold}
 use Rattle.batch.specs.Verdict.{verdict, after, stored}
@@ -24,10 +24,12 @@ use Rattle.batch.proofs.Good.{Good, not-bad, good-all}
 use Rattle.batch.proofs.Effects.{stored-length}
 use Rattle.dec.proofs.Cases.{by-bool}
 use Rattle.wire.specs.Receive.{End, Seen, accepting}
-use Rattle.wire.specs.Batch.{Batch, count, particleAt, weightAt, total, InRange, Item, recordOf, message, IsOf, AllOf, Frame, Frames, messages, has, hasClose, arrivedCount, arrivedTotal, due, expected, expectedAll}
-use Rattle.wire.proofs.Frames.{saidTo}
+use Rattle.wire.specs.Batch.{Batch, count, particleAt, weightAt, total, InRange, Item, recordOf, message, AllOf, Frame, Frames, messages, has, hasClose, arrivedCount, arrivedTotal, due, expected, expectedAll}
+use Rattle.wire.specs.Afterwards.{items}
+use Rattle.wire.proofs.Frames.{saidTo, afterAll}
 use Rattle.wire.proofs.Sums.{sum-same, has-none, all-of-append}
-use Rattle.wire.proofs.Arrived.{Held, takes, written}
+use Rattle.wire.proofs.Filled.{Filled}
+use Rattle.wire.proofs.Arrived.{Held, takes, record-long}
 
 pub good-length : (m : ℕ) → 1 ≤ m → m ≤ 15 → isBadLength 16 240 (m * 16) ≡ false
 unfolding isBadLength
@@ -37,16 +39,12 @@ good-length m some most =
 module _ (b : Batch) (numbered : b .number < 65536) (few : count b ≤ 4096) (ranges : (i : ℕ) → i < count b → InRange (particleAt b i)) where
   -- ---- the bytes of a frame
 
-  pub record-long : (item : Item) → IsOf b item → length (writtenBytes 0 (recordOf b item)) ≡ 16
-  unfolding writtenBytes bytesOf
-  record-long item h = rw (written b numbered few ranges item h)
-
   pub message-long : (f : List Item) → AllOf b f → length (message b f) ≡ length f * 16
   unfolding message
   message-long [] h = refl
   message-long (item ∷ f) h =
       length-append (writtenBytes 0 (recordOf b item)) (message b f)
-      ∙ omega (arith, record-long item (h .0), message-long f (h .1), suc-mul (length f) 16)
+      ∙ omega (arith, record-long b numbered few ranges item (h .0), message-long f (h .1), suc-mul (length f) 16)
 
   module _ (n : ℕ) (slotted : count b * 16 ≤ n) where
     abbrev Holding : List Item → Receiver → Type 0
@@ -60,10 +58,18 @@ module _ (b : Batch) (numbered : b .number < 65536) (few : count b ≤ 4096) (ra
       took : takeAll (length f) k r t (message b f) ≡ taken receiver table
       holds : Holding (l ++ f) receiver
       long : length table ≡ length t
+      fills : (t₀ : List ℕ) → length t ≡ n → Filled b t₀ l t → Filled b t₀ (l ++ f) table
 
     take-all : (f : List Item) → AllOf b f → (k : ℕ) (l : List Item) → AllOf b l → (r : Receiver) → Holding l r → (t : List ℕ) → TookAll k l f r t
     unfolding takeAll message
-    take-all [] a k l c r h t = record { receiver = r; table = t; took = refl; holds = subst (λ (x : List Item). Holding x r) (sym (append-nil l)) h; long = refl }
+    take-all [] a k l c r h t = record {
+      receiver = r;
+      table = t;
+      took = refl;
+      holds = subst (λ (x : List Item). Holding x r) (sym (append-nil l)) h;
+      long = refl;
+      fills = λ t₀ m g. subst (λ (x : List Item). Filled b t₀ x t) (sym (append-nil l)) g;
+    }
     take-all (item ∷ f) a k l c r h t =
         let s : List ℕ = writtenBytes 0 (recordOf b item) ++ message b f in
         let o = takes b numbered few ranges n slotted l r h k t item (a .0) c (message b f) in
@@ -71,9 +77,12 @@ module _ (b : Batch) (numbered : b .number < 65536) (few : count b ≤ 4096) (ra
         record {
           receiver = go .receiver;
           table = go .table;
-          took = rw (o .verdict, drop-at (writtenBytes 0 (recordOf b item)) (message b f) 16 (record-long item (a .0))) (go .took);
+          took = rw (o .verdict, drop-at (writtenBytes 0 (recordOf b item)) (message b f) 16 (record-long b numbered few ranges item (a .0))) (go .took);
           holds = subst (λ (x : List Item). Holding x (go .receiver)) (append-assoc l (item ∷ []) f) (go .holds);
           long = go .long ∙ stored-length (o .effect) t s;
+          fills = λ t₀ m g.
+              subst (λ (x : List Item). Filled b t₀ x (go .table)) (append-assoc l (item ∷ []) f)
+              (go .fills t₀ (stored-length (o .effect) t s ∙ m) (o .filled t₀ m g));
         }
 
     -- ---- how the batch then stands
@@ -116,6 +125,7 @@ module _ (b : Batch) (numbered : b .number < 65536) (few : count b ≤ 4096) (ra
       holds : Holding (l ++ f) (accepting .after e (message b f) .receiver)
       good : Good (accepting .after e (message b f) .receiver) n
       long : length (accepting .after e (message b f) .table) ≡ n
+      fills : (t₀ : List ℕ) → Filled b t₀ l (e .table) → Filled b t₀ (l ++ f) (accepting .after e (message b f) .table)
 
     accepts : (l : List Item) → AllOf b l → (f : List Item) → Frame b f → (e : End) → Holding l (e .receiver) → Good (e .receiver) n → length (e .table) ≡ n → Accepts l f e
     unfolding outcome acceptTold acceptNext acceptTable
@@ -135,15 +145,28 @@ module _ (b : Batch) (numbered : b .number < 65536) (few : count b ≤ 4096) (ra
           holds = rw o (t .holds);
           good = rw o k;
           long = rw o (t .long ∙ long);
+          fills = λ t₀ x. rw o (t .fills t₀ long x);
         }
 
-    -- ---- frame after frame
+    -- ---- frame after frame: what is said to each, and what is left of them all
 
-    pub says-expected : (fs : List (List Item)) → Frames b fs → (l : List Item) → AllOf b l → (e : End) → Holding l (e .receiver) → Good (e .receiver) n → length (e .table) ≡ n
-        → saidTo accepting e (messages b fs) ≡ expectedAll b l fs
-    says-expected [] g l a e h q long = refl
-    says-expected (f ∷ fs) g l a e h q long =
+    pub record Course (l : List Item) (fs : List (List Item)) (e : End) : Type 0 where
+      pub says : saidTo accepting e (messages b fs) ≡ expectedAll b l fs
+      pub holds : Holding (l ++ items fs) (afterAll accepting e (messages b fs) .receiver)
+      pub fills : (t₀ : List ℕ) → Filled b t₀ l (e .table) → Filled b t₀ (l ++ items fs) (afterAll accepting e (messages b fs) .table)
+
+    pub course : (fs : List (List Item)) → Frames b fs → (l : List Item) → AllOf b l → (e : End) → Holding l (e .receiver) → Good (e .receiver) n → length (e .table) ≡ n
+        → Course l fs e
+    course [] g l a e h q long = record {
+      says = refl;
+      holds = rw (append-nil l) h;
+      fills = λ t₀ x. rw (append-nil l) x;
+    }
+    course (f ∷ fs) g l a e h q long =
         let c = accepts l a f (g .0) e h q long in
-        ap₂ _∷_
-        (ap₂ (λ (t : Told) (v : Seen). record { answer = t; shown = v }) (c .says) (c .shows))
-        (says-expected fs (g .1) (l ++ f) (all-of-append b l f a (g .0 .ours)) (accepting .after e (message b f)) (c .holds) (c .good) (c .long))
+        let go = course fs (g .1) (l ++ f) (all-of-append b l f a (g .0 .ours)) (accepting .after e (message b f)) (c .holds) (c .good) (c .long) in
+        record {
+          says = ap₂ _∷_ (ap₂ (λ (t : Told) (v : Seen). record { answer = t; shown = v }) (c .says) (c .shows)) (go .says);
+          holds = rw (← append-assoc l f (items fs)) (go .holds);
+          fills = λ t₀ x. rw (← append-assoc l f (items fs)) (go .fills t₀ (c .fills t₀ x));
+        }

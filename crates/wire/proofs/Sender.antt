@@ -1,27 +1,22 @@
 -- The sender and the wire of demand 3, from the definitions that users call: what `write_frame` writes for each frame of a
--- batch; that loss, repeat and reorder only choose among the frames that were sent; and that a repeat adds no weight.
--- Assumes nothing.
-use mathlib.Core.Path.{_≡_, refl, sym, ap, _∙_}
-use mathlib.Core.Bool.{Bool, true, false, _||_}
-use mathlib.Core.List.{List, [], _∷_, _++_}
+-- batch; and that loss, repeat and reorder only choose among the frames that were sent. Assumes nothing.
+use mathlib.Core.Path.{_≡_, refl}
+use mathlib.Core.List.{List, [], _∷_}
 use Prim.Native.Nat.{ℕ, zero, suc, _+_, _*_, _/_, _≤_, _<_}
 use native.Mathlib.Omega.{arith}
-use lib.Dec.{eqb}
 use lib.ListN.{length, getD}
 use lib.Seq.{drop-at}
-use Rattle.cobs.specs.Words.{if_then_else_}
 use Rattle.cobs.specs.Answers.{done}
-use Rattle.cobs.specs.Code.{encode, over, maxLength}
+use Rattle.cobs.specs.Code.{encode, over}
 use Rattle.cobs.proofs.Encoding.{encode-length, overhead-max}
 use Rattle.record.specs.Record.{writtenBytes}
 use Rattle.record.specs.Frame as writer
 use Rattle.record.specs.Frame.{recordsTold, messageTold, frameTold, frameDest}
 use Rattle.record.proofs.Framing.{writes-fits}
 use Rattle.wire.specs.Loop.{framed}
-use Rattle.wire.specs.Batch.{Batch, count, particleAt, weightAt, InRange, Item, particle, close, recordOf, message, IsOf, AllOf, Frame, Frames, has, arrivedTotal}
-use Rattle.wire.proofs.Sums.{sum-same}
-use Rattle.wire.proofs.Arrived.{reads}
-use Rattle.wire.proofs.Receiving.{record-long, message-long, good-length}
+use Rattle.wire.specs.Batch.{Batch, count, particleAt, InRange, Item, recordOf, message, AllOf, Frame, Frames}
+use Rattle.wire.proofs.Arrived.{reads, record-long}
+use Rattle.wire.proofs.Receiving.{message-long, good-length}
 
 -- ---- what the sender writes
 
@@ -68,25 +63,3 @@ frame-at b (f ∷ sent) h (suc p) k = frame-at b sent (h .1) p (omega arith)
 pub arrivals-framed : (b : Batch) (sent : List (List Item)) → Frames b sent → (places : List ℕ) → Places (length sent) places → Frames b (arrivals sent places)
 arrivals-framed b sent h [] k = tt
 arrivals-framed b sent h (p ∷ places) k = (frame-at b sent h p (k .0), arrivals-framed b sent h places (k .1))
-
--- ---- a repeat adds no weight
-
-pub has-append : (i : ℕ) (l m : List Item) → has i (l ++ m) ≡ (has i l || has i m)
-has-append i [] m = refl
-has-append i (particle j ∷ l) m = go (eqb i j) (has-append i l m)
-  where
-    go : (c : Bool) → has i (l ++ m) ≡ (has i l || has i m) → (c || has i (l ++ m)) ≡ ((c || has i l) || has i m)
-    go true e = refl
-    go false e = e
-has-append i (close ∷ l) m = has-append i l m
-
-seen-again : (p q : Bool) → ((p || q) || p) ≡ (p || q)
-seen-again true q = refl
-seen-again false true = refl
-seen-again false false = refl
-
--- frame f once more, after any others
-pub repeat-adds-nothing : (b : Batch) (f others : List Item) → arrivedTotal b (f ++ others ++ f) ≡ arrivedTotal b (f ++ others)
-repeat-adds-nothing b f others =
-    sum-same (λ i. if has i (f ++ others ++ f) then weightAt b i else 0) (λ i. if has i (f ++ others) then weightAt b i else 0) (count b)
-    (λ j k. rw (has-append j (f ++ others) f, has-append j f others, seen-again (has j f) (has j others)))

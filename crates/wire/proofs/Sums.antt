@@ -1,7 +1,7 @@
 -- Sums over the numbers below n, and what is among the items that arrived. Assumes nothing.
 use mathlib.Core.Path.{_≡_, refl, sym, ap, ap₂, _∙_}
 use mathlib.Core.Logic.{_≢_}
-use mathlib.Core.Bool.{Bool, true, false, _||_}
+use mathlib.Core.Bool.{Bool, true, false, _||_, or-true, or-false, or-assoc}
 use mathlib.Core.List.{List, [], _∷_, _++_}
 use Prim.Native.Nat.{ℕ, zero, suc, _+_, _*_, _≤_, _<_, zero-le}
 use native.Mathlib.Decide.{ℕ-discrete}
@@ -38,21 +38,9 @@ sum-most f most (suc n) h = omega (arith, sum-most f most n (λ j k. h j (omega 
 
 -- ---- one item more
 
-or-true : (a : Bool) → (a || true) ≡ true
-or-true true = refl
-or-true false = refl
-
-or-assoc : (a b c : Bool) → (a || (b || c)) ≡ ((a || b) || c)
-or-assoc true b c = refl
-or-assoc false b c = refl
-
-or-false : (a : Bool) → (a || false) ≡ a
-or-false true = refl
-or-false false = refl
-
 pub has-particle : (i j : ℕ) (l : List Item) → has i (l ++ particle j ∷ []) ≡ (has i l || eqb i j)
 has-particle i j [] = or-false (eqb i j)
-has-particle i j (particle k ∷ l) = ap (λ (t : Bool). eqb i k || t) (has-particle i j l) ∙ or-assoc (eqb i k) (has i l) (eqb i j)
+has-particle i j (particle k ∷ l) = ap (λ (t : Bool). eqb i k || t) (has-particle i j l) ∙ sym (or-assoc (eqb i k) (has i l) (eqb i j))
 has-particle i j (close ∷ l) = has-particle i j l
 
 pub has-close : (i : ℕ) (l : List Item) → has i (l ++ close ∷ []) ≡ has i l

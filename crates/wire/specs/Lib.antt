@@ -4,3 +4,4 @@ pub mod Receive
 pub mod Call
 pub mod Batch
 pub mod Demand3
+pub mod Afterwards
