@@ -1,0 +1,4 @@
+-- The laws of the states as numbers, and that each call has one result.
+pub mod Same
+pub mod Naming
+pub mod Unique

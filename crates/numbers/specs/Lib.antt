@@ -1,0 +1,2 @@
+-- What a reader must believe of the states as numbers. Definitions only; their laws are in proofs/.
+pub mod Numbers
