@@ -1,2 +1,3 @@
--- One result for every exported call.
+-- The laws of the calls for C callers, and that each has one result.
+pub mod Named
 pub mod Unique

@@ -1,5 +1,6 @@
-//! The one-shot calls over the C convention, for firmware and the comparison. A call answers 01's number, 0 for done, and
-//! puts the answer's values behind its out-parameters, 0 where there is none.
+//! The calls over the C convention: here the one-shot ones, for firmware and the comparison; in `stream` the workstation's. A call
+//! answers 01's number, 0 for done, and puts the answer's values behind its out-parameters, 0 where there is none.
+pub mod stream;
 mod told;
 
 use told::decoded;
@@ -7,6 +8,7 @@ use told::decoded_with;
 use told::encoded;
 use told::encoded_with;
 use told::length_of;
+use told::put;
 use told::report;
 ghost use mathlib.Core.Path.{_≡_};
 ghost use lib.ListN.{length};
@@ -80,7 +82,7 @@ pub extern "C" fn laksovuth_decode(
     ensures answer { λ r. ⌜ tell r (now (size .exit)) (now (parsed .exit)) ≡ decodeTold (now (src .entry)) (length (now (dest .entry))) ⌝ }
     ensures memory { λ _. ⌜ now (dest .exit) ≡ decodeDest (now (src .entry)) (now (dest .entry)) ⌝ }
 {
-    decoded(dec::decode::decode(src, dest), size, parsed)
+    put(decoded(dec::decode::decode(src, dest)), size, parsed)
 }
 
 /// The body at the front of the buffer, decoded where it stands.
@@ -93,7 +95,11 @@ pub extern "C" fn laksovuth_decode_in_place(
     ensures answer { λ r. ⌜ tell r (now (size .exit)) (now (parsed .exit)) ≡ inPlaceTold (now (buf .entry)) ⌝ }
     ensures memory { λ _. ⌜ now (buf .exit) ≡ inPlaceDest (now (buf .entry)) ⌝ }
 {
-    report(place::place::decode_in_place_report(buf), size, parsed)
+    put(
+        report(place::place::decode_in_place_report(buf)),
+        size,
+        parsed,
+    )
 }
 
 /// The body of src with each byte XORed with the sentinel, decoded into dest.

@@ -61,6 +61,14 @@ module _ (ns : List ℕ) (long : length ns ≡ 74) (w : Wire) (is : w ≡ wireIn
   unfolding readOf names
   read-other e = rw (eq-eqb (length ns) 74 long, ← is, ← head, e) refl
 
+pub read-named-is : (ns : List ℕ) → readOf ns .named ≡ names ns
+unfolding readOf
+read-named-is ns = by-bool (names ns) (λ q. rw q refl) (λ q. rw q refl)
+
+pub read-wire-is : (ns : List ℕ) → names ns ≡ true → readOf ns .wire ≡ wireIn ns
+unfolding readOf
+read-wire-is ns e = rw e refl
+
 -- written
 head-long : (w : Wire) → length (headOf w) ≡ 10
 unfolding headOf

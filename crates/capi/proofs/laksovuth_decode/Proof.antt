@@ -10,11 +10,15 @@ decode-requires c κs = search needs
 decoded-requires : tie.Need-decoded-requires
 decoded-requires c κs = search needs
 
+put-requires : tie.Need-put-requires
+put-requires c κs = search needs
+
 same-length : tie.Need-same-length
 same-length c = search needs
 
 returns : tie.Need-returns
-returns c = (c .decoded .ensures ∙ c .before .before .before .before .before .decode .ensures .0, c .before .before .before .before .before .decode .ensures .1)
+returns c = (c .put .ensures ∙ c .before .before .before .decoded .ensures ∙ c .before .before .before .before .before .before .decode .ensures .0, c .before .before .before .before .before .before .decode .ensures .1)
 
 pub laksovuth-decode-spec : {M : Type 1} → statement M
-laksovuth-decode-spec = tie.close (tie.spec decode-requires decoded-requires same-length returns)
+laksovuth-decode-spec =
+    tie.close (tie.spec decode-requires decoded-requires put-requires same-length returns)

@@ -1,0 +1,3 @@
+-- What a reader must believe of the calls for C callers, beside the definitions of the calls they pass on.
+pub mod Stream
+pub mod Helpers

@@ -1,0 +1,57 @@
+-- The workstation's calls over the C convention: `receive` and `stands` on the states that numbers name. Numbers that name none
+-- are BadState, and then nothing changes. Assumes nothing.
+use mathlib.Core.List.{List}
+use Prim.Native.Nat.{ℕ}
+use lib.Dec.{eqb}
+use lib.ListN.{length}
+use Rattle.cobs.specs.Words.{if_then_else_}
+use Rattle.cobs.specs.Answers.{Told, done, badState}
+use Rattle.batch.specs.State.{standsTold}
+use Rattle.wire.specs.Loop.{Side, Received, received}
+use Rattle.wire.specs.Receive.{End, accepting}
+use Rattle.wire.specs.Call.{start, calls}
+use Rattle.wire.specs.declared.Wire.{Wire}
+use Rattle.numbers.specs.Numbers.{numbersOf, wireIn, names, writtenTo}
+
+-- ---- open
+
+-- As many numbers as a state has, or BadState.
+unfoldable pub openTold : (ns : List ℕ) → Told
+openTold ns = if eqb (length ns) 74 then done 0 0 else badState
+
+-- The numbers of a receiving side opened on a batch, with a table of n bytes.
+unfoldable pub openState : (ns : List ℕ) (batch n : ℕ) → List ℕ
+openState ns batch n = writtenTo ns (start batch n)
+
+-- ---- receive
+
+-- The call on the states that the numbers name.
+abbrev pub call : (ns buffer table piece : List ℕ) → Received End
+call ns buffer table piece = received accepting (calls (wireIn ns) buffer table) piece
+
+abbrev pub wireOf : Side End → Wire
+wireOf s = record { decoder = s .decoder; receiver = s .state .receiver }
+
+unfoldable pub receiveTold : (ns buffer table piece : List ℕ) → Told
+receiveTold ns buffer table piece = if names ns then call ns buffer table piece .answer else badState
+
+unfoldable pub receiveConsumed : (ns buffer table piece : List ℕ) → ℕ
+receiveConsumed ns buffer table piece = if names ns then call ns buffer table piece .consumed else 0
+
+unfoldable pub receiveState : (ns buffer table piece : List ℕ) → List ℕ
+receiveState ns buffer table piece = if names ns then numbersOf (wireOf (call ns buffer table piece .side)) else ns
+
+unfoldable pub receiveBuffer : (ns buffer table piece : List ℕ) → List ℕ
+receiveBuffer ns buffer table piece = if names ns then call ns buffer table piece .side .buffer else buffer
+
+unfoldable pub receiveTable : (ns buffer table piece : List ℕ) → List ℕ
+receiveTable ns buffer table piece = if names ns then call ns buffer table piece .side .state .table else table
+
+-- ---- stands, with a table of n bytes
+
+unfoldable pub stateTold : (ns : List ℕ) (n : ℕ) → Told
+stateTold ns n = if names ns then standsTold (wireIn ns .receiver) n else badState
+
+-- The total so far; 0 with BadState.
+unfoldable pub stateTotal : (ns : List ℕ) (n : ℕ) → ℕ
+stateTotal ns n = if eqb (stateTold ns n .number) 6 then 0 else wireIn ns .receiver .total
