@@ -1,13 +1,20 @@
 /* One operation, done so many times, so that a counter outside can take the difference of two runs.
      driver SIDE OP KIND SIZE ROOM TIMES
    SIDE ours or real; OP encode or decode; ROOM worst (the longest an encoding can be) or exact (what it needs).
+     driver ours receive records EACH - TIMES
+   opens a batch and receives 120 particles, EACH to a frame, every frame by one call.
    The buffers are not cleared between calls. The messages of each KIND are the same for both sides. */
 typedef unsigned char u8;
 typedef unsigned int u32;
 typedef unsigned long usize;
 
+/* As include/laksovuth.h has them. */
 u8 laksovuth_encode(const u8 *, usize, u8 *, usize, usize *);
 u8 laksovuth_decode(const u8 *, usize, u8 *, usize, usize *, usize *);
+u8 laksovuth_write_frame(const u8 *, usize, u8 *, usize, usize *, usize *);
+usize laksovuth_state_length(void);
+u8 laksovuth_open(unsigned long *, usize, unsigned short, const u8 *, usize);
+u8 laksovuth_receive(unsigned long *, usize, u8 *, usize, u8 *, usize, const u8 *, usize, usize *, usize *, usize *);
 usize real_encode(const u8 *, usize, u8 *, usize);
 usize real_decode(const u8 *, usize, u8 *, usize);
 
@@ -74,8 +81,31 @@ static usize decode(int ours, usize n, usize room) {
   return laksovuth_decode(encoded, n, decoded, room, &size, &parsed) ? ~0ul : size;
 }
 
+/* The receiver: frames of so many records, written first, then received again and again from a batch opened anew. */
+enum { PARTICLES = 120 };
+
+static int receive(usize each, usize times) {
+  static unsigned long state[256];
+  static u8 buffer[240], table[PARTICLES * 16];
+  usize length = laksovuth_state_length(), end = 0, at[PARTICLES + 1], frames = 0, a, b, c;
+  for (usize i = 0; i < PARTICLES * 16; i++) message[i] = record_byte(i);
+  for (usize i = 0; i < PARTICLES; i += each, frames++) {
+    at[frames] = end;
+    if (laksovuth_write_frame(message + i * 16, each * 16, encoded + end, 242, &a, &b)) return 3;
+    end += a;
+  }
+  at[frames] = end;
+  for (usize t = 0; t < times; t++) {
+    if (laksovuth_open(state, length, 1, table, sizeof table)) return 4;
+    for (usize k = 0; k < frames; k++)
+      if (laksovuth_receive(state, length, buffer, sizeof buffer, table, sizeof table, encoded + at[k], at[k + 1] - at[k], &a, &b, &c) != 15) return 5;
+  }
+  return 0;
+}
+
 int main(int argc, char **argv) {
   if (argc != 7) return 2;
+  if (same(argv[2], "receive")) return receive(number(argv[4]), number(argv[6]));
   int ours = same(argv[1], "ours"), decoding = same(argv[2], "decode");
   usize n = number(argv[4]), times = number(argv[6]), worst = n + n / 254 + 2;
   for (usize i = 0; i < n; i++) message[i] = kind_byte(argv[3], i);
