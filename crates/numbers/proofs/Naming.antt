@@ -17,6 +17,7 @@ use Rattle.batch.specs.declared.Close.{Close}
 use Rattle.batch.specs.declared.Close.the-variants.{Not, Taken}
 use Rattle.wire.specs.declared.Wire.{Wire}
 use Rattle.numbers.specs.Numbers.{bit, stateNumbers, closeNumbers, headOf, numbersOf, stateIn, closeIn, wireIn, same, names, unnamed, readOf, writtenTo}
+use Rattle.numbers.specs.Helpers.{Fits}
 use Rattle.numbers.proofs.Same.{same-equal, same-itself}
 
 take-all : (l : List ℕ) (n : ℕ) → length l ≡ n → take n l ≡ l
@@ -118,14 +119,6 @@ named-own ns e =
 
 -- ---- and a state's numbers name it
 
--- every field within its type
-pub record Fits (w : Wire) : Type 0 where
-  pub left : getD (stateNumbers (w .decoder .state)) 1 0 < 256
-  pub total : w .receiver .total < 4_294_967_296
-  pub closed : getD (closeNumbers (w .receiver .close)) 2 0 < 4_294_967_296
-  pub batch : w .receiver .batch < 65_536
-  pub words : length (w .receiver .marks) ≡ 64
-
 skip-back : (b : Bool) → not (eqb (bit b) 0) ≡ b
 skip-back true = refl
 skip-back false = refl
@@ -158,8 +151,22 @@ own-back w f =
     (sym (head-is w (bit (w .decoder .skip)) _ _ _ _ _ refl (state-pair (w .decoder .state)) (close-three (w .receiver .close))))
     ∙ rw (skip-back (w .decoder .skip), state-back (w .decoder .state) (f .left), close-back (w .receiver .close) (f .closed), t, b) refl
 
-pub own-named : (w : Wire) → Fits w → names (numbersOf w) ≡ true
+pub own-named : (w : Wire) → Fits w → length (w .receiver .marks) ≡ 64 → names (numbersOf w) ≡ true
 unfolding names numbersOf
-own-named w f =
-    let long : length (headOf w ++ w .receiver .marks) ≡ 74 = length-append (headOf w) (w .receiver .marks) ∙ omega (arith, head-long w, f .words) in
+own-named w f words =
+    let long : length (headOf w ++ w .receiver .marks) ≡ 74 = length-append (headOf w) (w .receiver .marks) ∙ omega (arith, head-long w, words) in
     rw (eq-eqb (length (headOf w ++ w .receiver .marks)) 74 long, take-at (headOf w) (w .receiver .marks) 10 (head-long w), own-back w f) (same-itself (headOf w))
+
+-- what `write` leaves names its states, in a list of that many
+pub written-named : (ns : List ℕ) (w : Wire) → Fits w → length (w .receiver .marks) ≡ 64 → length ns ≡ 74 → names (writtenTo ns w) ≡ eqb (length ns) 74
+unfolding writtenTo
+written-named ns w f words long = rw (eq-eqb (length ns) 74 long) (own-named w f words)
+
+pub other-unnamed : (ns : List ℕ) → length ns ≢ 74 → names ns ≡ eqb (length ns) 74
+unfolding names
+other-unnamed ns h = rw (ne-eqb (length ns) 74 h)
+
+-- a field of the head, by the numbers of its part
+pub fits-by : (w : Wire) (kind left taken count total : ℕ) → kind ∷ left ∷ [] ≡ stateNumbers (w .decoder .state) → left < 256
+    → taken ∷ count ∷ total ∷ [] ≡ closeNumbers (w .receiver .close) → total < 4_294_967_296 → w .receiver .total < 4_294_967_296 → w .receiver .batch < 65_536 → Fits w
+fits-by w kind left taken count total es l ec t rt rb = record { left = rw (← es) l; total = rt; closed = rw (← ec) t; batch = rb }

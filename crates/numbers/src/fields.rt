@@ -7,8 +7,10 @@ use dec::stream::CobsDecoder;
 use wire::Wire;
 ghost use mathlib.Core.Path.{_≡_};
 ghost use mathlib.Core.List.{[], _∷_};
+ghost use Prim.Native.Nat.{_<_};
 ghost use lib.ListN.{length, drop};
 ghost use Rattle.numbers.specs.Numbers.{bit, stateNumbers, closeNumbers, headOf, stateIn, closeIn, wireIn};
+ghost use Rattle.numbers.specs.Helpers.{Fits};
 
 struct StateNumbers {
     kind: u64,
@@ -28,7 +30,8 @@ fn bit(b: bool) -> u64
 }
 
 fn state_numbers(state: DecoderState) -> StateNumbers
-    ensures { λ r. ⌜ r .kind ∷ r .left ∷ [] ≡ stateNumbers state ⌝ }
+    ensures numbers { λ r. ⌜ r .kind ∷ r .left ∷ [] ≡ stateNumbers state ⌝ }
+    ensures fits { λ r. ⌜ r .left < 256 ⌝ }
 {
     match state {
         DecoderState::Idle => StateNumbers { kind: 0, left: 0 },
@@ -44,7 +47,8 @@ fn state_numbers(state: DecoderState) -> StateNumbers
 }
 
 fn close_numbers(close: Close) -> CloseNumbers
-    ensures { λ r. ⌜ r .taken ∷ r .count ∷ r .total ∷ [] ≡ closeNumbers close ⌝ }
+    ensures numbers { λ r. ⌜ r .taken ∷ r .count ∷ r .total ∷ [] ≡ closeNumbers close ⌝ }
+    ensures fits { λ r. ⌜ r .total < 4294967296 ⌝ }
 {
     match close {
         Close::Not => CloseNumbers {
@@ -61,7 +65,8 @@ fn close_numbers(close: Close) -> CloseNumbers
 }
 
 pub(crate) fn head_of(wire: Wire) -> [u64; 10]
-    ensures { λ r. ⌜ r ≡ headOf wire ⌝ }
+    ensures head { λ r. ⌜ r ≡ headOf wire ⌝ }
+    ensures fits { λ _. ⌜ Fits wire ⌝ }
 {
     let decoder = wire.decoder;
     let receiver = wire.receiver;

@@ -26,7 +26,7 @@ starts-with-requires c κs = search needs
 
 returns-2 : tie.Need-returns-2
 returns-2 c =
-    read-named (c .before .before .before .before .before .before .before .args .numbers .now) (omega arith) _ (c .before .before .before .before .wire-in .ensures) _ (c .before .before .before .head-of .ensures) (sym (c .before .starts-with .ensures) ∙ c .if2 .taken)
+    read-named (c .before .before .before .before .before .before .before .args .numbers .now) (omega arith) _ (c .before .before .before .before .wire-in .ensures) _ (c .before .before .before .head-of .ensures .0) (sym (c .before .starts-with .ensures) ∙ c .if2 .taken)
 
 none-requires-2 : tie.Need-none-requires-2
 none-requires-2 c κs = search needs
@@ -34,7 +34,7 @@ none-requires-2 c κs = search needs
 returns-3 : tie.Need-returns-3
 returns-3 c =
     c .none2 .ensures
-    ∙ read-other (c .before .before .before .before .before .before .before .before .args .numbers .now) (omega arith) _ (c .before .before .before .before .before .wire-in .ensures) _ (c .before .before .before .before .head-of .ensures) (sym (c .before .before .starts-with .ensures) ∙ c .before .if2 .left)
+    ∙ read-other (c .before .before .before .before .before .before .before .before .args .numbers .now) (omega arith) _ (c .before .before .before .before .before .wire-in .ensures) _ (c .before .before .before .before .head-of .ensures .0) (sym (c .before .before .starts-with .ensures) ∙ c .before .if2 .left)
 
 pub read-spec : {M : Type 1} → statement M
 read-spec =

@@ -21,7 +21,7 @@ same-length c = search needs
 returns-2 : tie.Need-returns-2
 returns-2 c =
     let a = c .before .before .before .before .before .before .before .before .args in
-    open-done (a .state .now) (a .batch) (length (a .table .now)) (omega arith) _ (c .before .before .before .before .«open» .ensures) _ (c .before .before .write .ensures)
+    open-done (a .state .now) (a .batch) (length (a .table .now)) (omega arith) _ (c .before .before .before .before .«open» .ensures) _ (c .before .before .write .ensures .0) (c .before .before .write .ensures .1)
 
 pub laksovuth-open-spec : {M : Type 1} → statement M
 laksovuth-open-spec =

@@ -41,7 +41,7 @@ same-length-4 c = search needs
 returns-2 : tie.Need-returns-2
 returns-2 c =
     let a = c .before .before .before .before .before .before .before .before .before .before .before .before .before .before .before .before .before .before .before .before .before .before .before .args in
-    receive-some (a .state .now) _ (c .before .before .before .before .before .before .before .before .before .before .before .before .before .before .before .before .before .read .ensures) (a .buffer .now) (a .table .now) (a .piece .now) (not-false _ (c .before .before .before .before .before .before .before .before .before .before .before .before .before .before .before .if1 .left)) (c .before .before .before .before .before .before .before .before .before .before .before .before .receive .result) _ _ (c .before .before .before .before .before .before .before .before .before .before .before .before .receive .ensures) _ (c .before .before .before .before .before .before .write .ensures) _ (c .put .ensures ∙ c .before .before .before .received .ensures)
+    receive-some (a .state .now) _ (c .before .before .before .before .before .before .before .before .before .before .before .before .before .before .before .before .before .read .ensures) (a .buffer .now) (a .table .now) (a .piece .now) (not-false _ (c .before .before .before .before .before .before .before .before .before .before .before .before .before .before .before .if1 .left)) (c .before .before .before .before .before .before .before .before .before .before .before .before .receive .result) _ _ (c .before .before .before .before .before .before .before .before .before .before .before .before .receive .ensures) _ (c .before .before .before .before .before .before .write .ensures .0) (c .before .before .before .before .before .before .write .ensures .1) _ (c .put .ensures ∙ c .before .before .before .received .ensures)
 
 pub laksovuth-receive-spec : {M : Type 1} → statement M
 laksovuth-receive-spec =

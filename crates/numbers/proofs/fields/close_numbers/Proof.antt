@@ -13,10 +13,10 @@ cast-t6 : tie.Need-cast-t6
 cast-t6 c = search needs
 
 returns : tie.Need-returns
-returns c = cc
+returns c = (cc, search needs)
 
 returns-2 : tie.Need-returns-2
-returns-2 c = cc
+returns-2 c = (cc, search needs)
 
 pub close-numbers-spec : {M : Type 1} → statement M
 close-numbers-spec = tie.close (tie.spec enum-told enum-known-close cast-t6 returns returns-2)

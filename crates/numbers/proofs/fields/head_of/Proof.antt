@@ -1,6 +1,7 @@
 -- `numbers::fields::head_of` meets its contract. Assumes nothing.
+use native.Mathlib.Omega.{arith}
 use borrow.Author.Needs.{needs}
-use Rattle.numbers.proofs.Naming.{head-is}
+use Rattle.numbers.proofs.Naming.{head-is, fits-by}
 use Rattle.numbers.proofs.fields.head_of.Statement.{statement}
 use Rattle.numbers.proofs.fields.head_of.Tie as tie
 
@@ -21,7 +22,12 @@ cast-t12 c = search needs
 
 returns : tie.Need-returns
 returns c =
-    head-is (c .before .before .before .before .before .before .before .args .wire) _ _ _ _ _ _ (c .before .before .bit .ensures) (c .before .before .before .before .state-numbers .ensures) (c .before .before .before .close-numbers .ensures)
+    let w = c .before .before .before .before .before .before .before .args .wire in
+    let n = c .before .before .before .before .state-numbers in
+    let k = c .before .before .before .close-numbers in (
+      head-is w _ _ _ _ _ _ (c .before .before .bit .ensures) (n .ensures .0) (k .ensures .0),
+      fits-by w _ _ _ _ _ (n .ensures .0) (n .ensures .1) (k .ensures .0) (k .ensures .1) (omega arith) (omega arith),
+    )
 
 pub head-of-spec : {M : Type 1} → statement M
 head-of-spec =

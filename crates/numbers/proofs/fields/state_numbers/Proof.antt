@@ -19,13 +19,13 @@ cast-t6 : tie.Need-cast-t6
 cast-t6 c = search needs
 
 returns : tie.Need-returns
-returns c = cc
+returns c = (cc, search needs)
 
 returns-2 : tie.Need-returns-2
-returns-2 c = cc
+returns-2 c = (cc, search needs)
 
 returns-3 : tie.Need-returns-3
-returns-3 c = cc
+returns-3 c = (cc, search needs)
 
 pub state-numbers-spec : {M : Type 1} → statement M
 state-numbers-spec =
