@@ -131,7 +131,7 @@ module _ {M : Type 1} (𝓤 : URA M) (H : Heap 𝓤) (A : Atoms 𝓤) (W : Given
           rewrite ! 5 (λ (z : Val). ‵ (fat fullShare pair′.mir l₄ 0 z)) (ap only (struct.tells pair.the-type pair′.the-laws next _ is)) refl $
           assigns ! (of-opd ! (load ! (from ! (fld ! refl (stop !))) (look-in ! 5 (sub ! 0 refl (whole !))))) (from ! (hop ! (look ! 11 refl) (stop !)))
           (store-raw ! 1 refl (enum.lawful state.the-type state′.the-laws 𝓤 H A W tt .typed (next .state) _ (fields .0) .0)) $
-          assigns ! (of-opd ! (load ! (from ! (fld ! refl (stop !))) (look-in ! 5 (sub ! 1 refl (whole !))))) (from ! (stop !))
+          assigns ! (of-opd ! (load ! (from ! (fld ! {d = 2} refl (stop !))) (look-in ! 5 (sub ! 1 {d = 2} refl (whole !))))) (from ! (stop !))
           (init ! 13 refl (enum.lawful result.the-type result′.the-laws 𝓤 H A W tt .typed (next .result) _ (fields .1 .0) .0)) $
           drop ! $ owned ! state.the-row (Is state.the-row) (enum.makes state.the-type state′.the-plain 𝓤 H A) (next .state) _ (fields .0) $
           move ! (1 ∷ 0 ∷ []) $ closes ! tt state.the-row (next .state) (state-at (next .state) ∷ []) b o $
