@@ -1,0 +1,2 @@
+-- The laws of the encoder that holds its slice.
+pub mod Starts
