@@ -1,2 +1,5 @@
 -- The laws of the encoder that holds its slice.
 pub mod Starts
+-- what the proofs by hand share
+pub mod Lent
+pub mod Held
