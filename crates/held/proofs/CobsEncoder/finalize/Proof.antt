@@ -40,8 +40,8 @@ use denote.Triple.Walked.{says, Stays, walkOf, Walks, ends-at, walked, walk-meet
 use Rattle.enc.specs.Stream.{toldFinished, finishTold, finishDest}
 use Rattle.enc.specs.declared.stream.Encoder.{Encoder}
 use Rattle.enc.specs.declared.stream.Finished.{Finished}
-use Rattle.enc.proofs.stream.Encoder as plain
-use Rattle.enc.proofs.stream.Encoder.Laws as plain′
+use Rattle.enc.proofs.stream.Encoder as inner
+use Rattle.enc.proofs.stream.Encoder.Laws as inner′
 use Rattle.enc.proofs.stream.Finished as finished
 use Rattle.enc.proofs.stream.Finished.Laws as finished′
 use Rattle.enc.proofs.stream.Encoder.finalize as below
@@ -65,7 +65,7 @@ module _ {M : Type 1} (𝓤 : URA M) (H : Heap 𝓤) (A : Atoms 𝓤) (W : Given
   Below = tripleOf 𝓤 H A below.signature (below.spec 𝓤 H A memory run)
 
   -- The encoder e beside the slice x, lent for the lifetime κ.
-  module _ (κ : Lft) (q : Share) (x : RefT (List ℕ)) (e : Encoder) (e-is : Is plain.the-row e (plain′.lowered e ∷ [])) where
+  module _ (κ : Lft) (q : Share) (x : RefT (List ℕ)) (e : Encoder) (e-is : Is inner.the-row e (inner′.lowered e ∷ [])) where
     abbrev α : NamedLft
     α = record { mir = named 0; lft = κ }
 
@@ -73,7 +73,7 @@ module _ {M : Type 1} (𝓤 : URA M) (H : Heap 𝓤) (A : Atoms 𝓤) (W : Given
     self = record { dest = x; encoder = e }
 
     abbrev self-at : Val
-    self-at = vstruct (vcons (slice-at x) (vcons (plain′.lowered e) vnil))
+    self-at = vstruct (vcons (slice-at x) (vcons (inner′.lowered e) vnil))
 
     abbrev values : List Val × Unit {0}
     values = (self-at ∷ [], tt)
@@ -83,12 +83,12 @@ module _ {M : Type 1} (𝓤 : URA M) (H : Heap 𝓤) (A : Atoms 𝓤) (W : Given
 
     -- The call: what it takes, and what it says of its result and the slice.
     abbrev taken : Below .Ghost
-    taken = (((κ, tt), (q, tt), tt, (e, (x, tt)), (plain′.lowered e ∷ [], (slice-at x ∷ [], tt))), tt)
+    taken = (((κ, tt), (q, tt), tt, (e, (x, tt)), (inner′.lowered e ∷ [], (slice-at x ∷ [], tt))), tt)
 
     goes : ent 𝓤 (sep 𝓤 (sep 𝓤 (A .lft κ q) (sem 𝓤 H A ftrue)) (sem 𝓤 H A (MutSlice (named 0) κ u8 .own x (slice-at x ∷ [])))) (Below .pre taken)
     goes =
         qed W ((‵ (flft κ q) ⊛ ‵ ftrue) ∷ ‵ (MutSlice (named 0) κ u8 .own x (slice-at x ∷ [])) ∷ []) ∵ nothing ! $ move ! (2 ∷ 0 ∷ []) $ fjoin ! $
-        owned ! plain.the-row (Is plain.the-row) (struct.makes plain.the-type plain′.the-plain 𝓤 H A) e _ e-is $ fjoin ! $ move ! (1 ∷ 0 ∷ []) $ join ! $ frame ! $ done !
+        owned ! inner.the-row (Is inner.the-row) (struct.makes inner.the-type inner′.the-plain 𝓤 H A) e _ e-is $ fjoin ! $ move ! (1 ∷ 0 ∷ []) $ join ! $ frame ! $ done !
 
     abbrev Tells : Finished → Type 0
     Tells r = toldFinished r ≡ finishTold e (length (x .now))
@@ -98,15 +98,15 @@ module _ {M : Type 1} (𝓤 : URA M) (H : Heap 𝓤) (A : Atoms 𝓤) (W : Given
 
     -- What is had of the fields at exit.
     abbrev had : List ℕ → List Val × (List Val × Unit {0}) → Fml
-    had zs vs = fsep (finally u8 (x .name) zs) (fsep (plain.the-row .own e (vs .1 .0)) ftrue)
+    had zs vs = fsep (finally u8 (x .name) zs) (fsep (inner.the-row .own e (vs .1 .0)) ftrue)
 
     exits : (r : Finished) (w : Val) (zs : List ℕ) → Tells r → Leaves zs → length zs ≡ length (x .now)
         → ent 𝓤 (sep 𝓤 (sep 𝓤 (A .lft κ q) (sem 𝓤 H A ftrue)) (sep 𝓤 (sem 𝓤 H A (finally u8 (x .name) zs)) (sem 𝓤 H A (finished.the-row .own r (w ∷ []))))) (Post w)
     exits r w zs told memory-is same =
         qed W ((‵ (flft κ q) ⊛ ‵ ftrue) ∷ ‵ (finally u8 (x .name) zs) ∷ ‵ (finished.the-row .own r (w ∷ [])) ∷ []) ∵
         suffices ! _ (ends-at 𝓤 H A finalize.ended left (finalize.clauses 𝓤 H A memory run) W (((κ, tt), (q, tt), tt, (self, tt), values), tt) w r ((zs, tt), tt) ((same, (tt, tt)), tt)) $ says ! (told, memory-is) $ frame ! $
-        nothing ! $ owned ! plain.the-row (Is plain.the-row) (struct.makes plain.the-type plain′.the-plain 𝓤 H A) e _ e-is $ fjoin ! $ move ! (1 ∷ 0 ∷ []) $ fjoin ! $
-        use1 W (‵ (inStruct (MutSlice (named 0) κ u8 ∷ plain.the-field .row ∷ []) (self-at ∷ []) (had zs))) (makes 𝓤 H A W (MutSlice (named 0) κ u8 ∷ plain.the-field .row ∷ []) (had zs) (slice-at x ∷ [], (plain′.lowered e ∷ [], tt))) $
+        nothing ! $ owned ! inner.the-row (Is inner.the-row) (struct.makes inner.the-type inner′.the-plain 𝓤 H A) e _ e-is $ fjoin ! $ move ! (1 ∷ 0 ∷ []) $ fjoin ! $
+        use1 W (‵ (inStruct (MutSlice (named 0) κ u8 ∷ inner.the-field .row ∷ []) (self-at ∷ []) (had zs))) (makes 𝓤 H A W (MutSlice (named 0) κ u8 ∷ inner.the-field .row ∷ []) (had zs) (slice-at x ∷ [], (inner′.lowered e ∷ [], tt))) $
         nothing ! $ move ! (1 ∷ 0 ∷ []) $ fjoin ! $ done !
 
     module _ (C : Calls 𝓤 H) (Λ : Loops 𝓤 H) (fm : FmC 𝓤 H (W .laws) C) (known : Triple 𝓤 (C below-code.name) Below) where
@@ -116,7 +116,7 @@ module _ {M : Type 1} (𝓤 : URA M) (H : Heap 𝓤) (A : Atoms 𝓤) (W : Given
           alloc1 ! (λ l₀. alloc1 ! (λ l₁. alloc1 ! (λ l₂. alloc1 ! (λ l₃. alloc1 ! (λ l₄. alloc0 ! $ params1 ! $
           pass1 ! (init ! 6 refl (struct.lawful (held.the-type α) (held′.the-laws α) 𝓤 H A W .typed self _ self-is .0)) $ pass0 ! $
           -- _4 to _0 stand at 0, 2, .., 8, the token at 10, what self owns at 11: _2 = _1.encoder, _4 = &mut *_1.dest
-          assigns ! (of-opd ! (load ! (from ! (fld ! refl (stop !))) (look-in ! 6 (sub ! 1 refl (whole !))))) (from ! (stop !)) (init ! 4 refl (struct.lawful plain.the-type plain′.the-laws 𝓤 H A W .typed e _ e-is .0)) $
+          assigns ! (of-opd ! (load ! (from ! (fld ! refl (stop !))) (look-in ! 6 (sub ! 1 refl (whole !))))) (from ! (stop !)) (init ! 4 refl (struct.lawful inner.the-type inner′.the-laws 𝓤 H A W .typed e _ e-is .0)) $
           assigns ! (addr ! (from ! (fld ! refl (fld ! refl (hop ! (look-in ! 6 (sub ! 0 refl (sub ! 0 refl (whole !)))) (stop !)))))) (from ! (stop !)) (init ! 2 refl (tt, tt)) $
           assigns ! (agg ! (and-then ! (load ! (from ! (stop !)) (look ! 2 refl)) (and-then ! (load ! (from ! (fld ! refl (fld ! refl (stop !)))) (look-in ! 6 (sub ! 1 refl (sub ! 0 refl (whole !))))) (no-more !)))) (from ! (stop !))
           (init ! 0 refl (tt, (tt, (record { fits = room .0 }, tt)))) $
