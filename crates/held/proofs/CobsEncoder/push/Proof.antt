@@ -188,7 +188,7 @@ module _ {M : Type 1} (𝓤 : URA M) (H : Heap 𝓤) (A : Atoms 𝓤) (W : Given
           move ! (1 ∷ []) $ split ! $ move ! (0 ∷ 8 ∷ 3 ∷ []) $
           use3 W (later (‵ (MutSlice (named 1) κ′ u8 .own (under x (x .name) (ws .1 .0)) (slice-at x ∷ [])) ⊛ ‵ (flft κ′ q′))) (comes-home κ′ q′ x 𝓤 H A W (named 1) z (ws .1 .0) (room is) same) $ await ! tt $ split ! $
           -- the slice at 0, its token at 1, the struct's cell at 9, _7 to _0 from 13 on: (*_1).encoder = _4.next, _0 = _4.answer
-          assigns ! (of-opd ! (load ! (from ! (fld ! refl (stop !))) (look-in ! 19 (sub ! 1 refl (whole !))))) (from ! (hop ! (look ! 25 refl) (fld ! refl (stop !)))) (store-in ! 9 (sub ! 1 refl (whole !)) (struct.lawful inner.the-type inner′.the-laws 𝓤 H A W .typed (r .next) _ (fields .1 .0) .0)) $
+          assigns ! (of-opd ! (load ! (from ! (fld ! {d = 8} refl (stop !))) (look-in ! 19 (sub ! 1 {d = 8} refl (whole !))))) (from ! (hop ! (look ! 25 refl) (fld ! {τ = inner′.mir} {d = 16} refl (stop !)))) (store-in ! 9 {τ = inner′.mir} (sub ! 1 {τ = inner′.mir} {d = 16} refl (whole !)) (struct.lawful inner.the-type inner′.the-laws 𝓤 H A W .typed (r .next) _ (fields .1 .0) .0)) $
           assigns ! (of-opd ! (load ! (from ! (fld ! refl (stop !))) (look-in ! 19 (sub ! 0 refl (whole !))))) (from ! (stop !)) (init ! 27 refl (enum.lawful accepted.the-type accepted′.the-laws 𝓤 H A W tt .typed (r .answer) _ (fields .0) .0)) $
           -- the struct is put together again, and the borrow shut on it
           nothing ! $ owned ! inner.the-row (Is inner.the-row) (struct.makes inner.the-type inner′.the-plain 𝓤 H A) (r .next) _ (fields .1 .0) $ fjoin ! $ move ! (1 ∷ 0 ∷ []) $ fjoin ! $
