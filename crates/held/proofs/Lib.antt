@@ -3,3 +3,4 @@ pub mod Starts
 -- what the proofs by hand share
 pub mod Lent
 pub mod Held
+pub mod Local

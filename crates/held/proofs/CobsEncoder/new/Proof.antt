@@ -165,9 +165,9 @@ module _ {M : Type 1} (𝓤 : URA M) (H : Heap 𝓤) (A : Atoms 𝓤) (W : Given
           -- the slice at 0, its token at 1, _7 to _0 from 6 on: _6 = &mut *_1, _7 = { _6, _2.encoder }, _0 = { _7, _2.answer }
           assigns ! (addr ! (from ! (fld ! refl (hop ! (look-in ! 18 (sub ! 0 refl (whole !))) (stop !))))) (from ! (stop !)) (init ! 10 refl (tt, tt)) $
           assigns ! (agg ! (and-then ! (load ! (from ! (stop !)) (look ! 10 refl)) (and-then ! (load ! (from ! (fld ! refl (stop !))) (look-in ! 18 (sub ! 1 refl (whole !)))) (no-more !)))) (from ! (stop !)) (init ! 8 refl (tt, (tt, (record { fits = x-is .0 .1 .0 }, tt)))) $
-          assigns ! (agg ! (and-then ! (load ! (from ! (stop !)) (look ! 8 refl)) (and-then ! (load ! (from ! (fld ! refl (stop !))) (look-in ! 16 (sub ! 0 refl (whole !)))) (no-more !)))) (from ! (stop !))
+          assigns ! (agg ! (and-then ! (load ! (from ! (stop !)) (look ! 8 refl)) (and-then ! (load ! (from ! (fld ! {τ = inner′.mir} {d = 0} refl (stop !))) (look-in ! 16 {τ = inner′.mir} (sub ! 0 {τ = inner′.mir} {d = 0} refl (whole !)))) (no-more !)))) (from ! (stop !))
           (init ! 6 refl (struct.lawful (held.the-type α-local) (held′.the-laws α-local) 𝓤 H A W .typed (encoder r) _ (held-is r x-is (fields .0) (fields .1 .0)) .0)) $
-          assigns ! (agg ! (and-then ! (load ! (from ! (stop !)) (look ! 6 refl)) (and-then ! (load ! (from ! (fld ! refl (stop !))) (look-in ! 16 (sub ! 1 refl (whole !)))) (no-more !)))) (from ! (stop !))
+          assigns ! (agg ! (and-then ! (load ! (from ! (stop !)) (look ! 6 refl)) (and-then ! (load ! (from ! (fld ! {τ = answer′.mir} {d = 32} refl (stop !))) (look-in ! 16 {τ = answer′.mir} (sub ! 1 {τ = answer′.mir} {d = 32} refl (whole !)))) (no-more !)))) (from ! (stop !))
           (init ! 20 refl (struct.lawful (made.the-type α) (made′.the-laws α) 𝓤 H A W .typed (result r) _ (result-is r x-is (fields .0) (fields .1 .0)) .0)) $
           returns ! (look ! 20 refl) $ forget ! 6 refl $ forget ! 8 refl $ forget ! 10 refl $ forget ! 12 refl $ forget ! 14 refl $ forget ! 16 refl $ forget ! 18 refl $ forget ! 20 refl $
           move ! (20 ∷ 21 ∷ []) $ free1 ! $ move ! (18 ∷ 19 ∷ []) $ free1 ! $ move ! (16 ∷ 17 ∷ []) $ free1 ! $ move ! (14 ∷ 15 ∷ []) $ free1 ! $ move ! (12 ∷ 13 ∷ []) $ free1 ! $ move ! (10 ∷ 11 ∷ []) $ free1 ! $ move ! (8 ∷ 9 ∷ []) $ free1 ! $ move ! (6 ∷ 7 ∷ []) $ free1 ! $ free0 ! $
