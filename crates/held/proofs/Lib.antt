@@ -4,3 +4,4 @@ pub mod Starts
 pub mod Lent
 pub mod Held
 pub mod Local
+pub mod Unique

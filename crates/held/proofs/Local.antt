@@ -107,9 +107,16 @@ module _ {M : Type 1} (𝓤 : URA M) (H : Heap 𝓤) (A : Atoms 𝓤) (W : Given
     Kept z = sep 𝓤 (sem 𝓤 H A (Behind z)) (sep 𝓤 (Rest 𝓤 H A W (z .0) (PosShare·right q)) (sem 𝓤 H A (Piece κ′ p)))
 
     abbrev pub taken : ℕ × GName → Push .Ghost
-    taken z =
-        (((z .0 ∷ κ, (κ, (κ′, tt))), (PosShare·right q, (PosShare·left q, (q′, tt))), (meet-⊑-right (z .0 ∷ []) κ, tt),
-        (lent z, (p, tt)), (vptr l 0 ∷ [], (slice-at p ∷ [], tt))), tt)
+    taken z = (
+      (
+        (z .0 ∷ κ, (κ, (κ′, tt))),
+        (PosShare·right q, (PosShare·left q, (q′, tt))),
+        (meet-⊑-right (z .0 ∷ []) κ, tt),
+        (lent z, (p, tt)),
+        (vptr l 0 ∷ [], (slice-at p ∷ [], tt)),
+      ),
+      tt,
+    )
 
     abbrev given-to : ℕ × GName → Fml
     given-to z = owns (MutRef (named 0) (z .0 ∷ κ) (R κ q l h) ∷ ShrSlice (named 0) κ′ u8 ∷ []) (lent z, (p, tt)) (vptr l 0 ∷ [], (slice-at p ∷ [], tt))

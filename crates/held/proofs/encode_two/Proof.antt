@@ -139,6 +139,13 @@ module _ {M : Type 1} (𝓤 : URA M) (H : Heap 𝓤) (A : Atoms 𝓤) (W : Given
         qed W (‵ (flft κ q) ∷ ‵ (MutSlice (named 0) κ u8 .own x (slice-at x ∷ [])) ∷ []) ∵
         nothing ! $ move ! (2 ∷ 0 ∷ []) $ fjoin ! $ nothing ! $ move ! (2 ∷ 0 ∷ []) $ join ! $ join ! $ frame ! $ done !
 
+    -- What `new` gives, with the answer o.
+    abbrev started-with : Opened → NewEncoder
+    started-with o = record { encoder = h₀; answer = o }
+
+    abbrev started-at : Opened → Val
+    started-at o = struct.val (made.the-type α) (made′.the-laws α) (started-with o)
+
     abbrev Made : NewEncoder → Type 0
     Made r = (toldOpened (r .answer) ≡ toldStarted (started (length (x .now)))) × (r .encoder ≡ h₀)
 
@@ -181,21 +188,20 @@ module _ {M : Type 1} (𝓤 : URA M) (H : Heap 𝓤) (A : Atoms 𝓤) (W : Given
           use1 W (raw (New .pre new-taken)) new-goes $ calls-at ! fm New new-known new-taken (and-then ! (load ! (from ! (stop !)) (look ! 10 refl)) (no-more !)) (λ w₀.
           use1 W (later (some (λ (r : NewEncoder). ((‵ (flft κ q) ⊛ ‵ ftrue) ⊛ ‵ (made.the-row α .own r (w₀ ∷ []))) ⊛ raw (ensured 𝓤 H A new.ended (new.clauses 𝓤 H A memory run) (κ, tt) (x, tt) tt r)))) (id⊢ 𝓤 _) $ await ! tt $ pick ! (λ r₀.
           split ! $ move ! (1 ∷ []) $ use1 W (raw (fact 𝓤 (Made r₀))) (new-told r₀) $ heard ! (Made r₀) (λ new-said. split ! $ split ! $ move ! (1 ∷ []) $ drop ! $ move ! (1 ∷ []) $
-          let r : NewEncoder = record { encoder = h₀; answer = r₀ .answer } in
           rewrite ! 0 (λ (z : NewEncoder). ‵ (made.the-row α .own z (w₀ ∷ []))) (λ i. record { encoder = new-said .1 i; answer = r₀ .answer }) refl $
-          peeks ! (made.the-row α) (Is (made.the-row α)) (shows 𝓤 H A (made.the-row α)) r (w₀ ∷ []) (λ is₀.
-          let w₀-is = ap only (struct.tells (made.the-type α) (made′.the-laws α) r _ is₀) in
-          let fields = struct.owed (made.the-type α) (made′.the-laws α) r _ is₀ in
+          peeks ! (made.the-row α) (Is (made.the-row α)) (shows 𝓤 H A (made.the-row α)) (started-with (r₀ .answer)) (w₀ ∷ []) (λ is₀.
+          let w₀-is = ap only (struct.tells (made.the-type α) (made′.the-laws α) (started-with (r₀ .answer)) _ is₀) in
+          let fields = struct.owed (made.the-type α) (made′.the-laws α) (started-with (r₀ .answer)) _ is₀ in
           let h₀-typed = struct.lawful (held.the-type (local κ)) (held′.the-laws (local κ)) 𝓤 H A W .typed h₀ _ (fields .0) .0 in
-          land ! (from ! (stop !)) (init ! 25 refl (struct.lawful (made.the-type (local κ)) (made′.the-laws (local κ)) 𝓤 H A W .typed r _ is₀ .0)) $
-          rewrite ! 25 (λ (z : Val). ‵ (fat fullShare (made′.mir erased) l₄ 0 z)) w₀-is refl $ rewrite ! 0 (λ (z : Val). ‵ (made.the-row α .own r (z ∷ []))) w₀-is refl $
+          land ! (from ! (stop !)) (init ! 25 refl (struct.lawful (made.the-type (local κ)) (made′.the-laws (local κ)) 𝓤 H A W .typed (started-with (r₀ .answer)) _ is₀ .0)) $
+          rewrite ! 25 (λ (z : Val). ‵ (fat fullShare (made′.mir erased) l₄ 0 z)) w₀-is refl $ rewrite ! 0 (λ (z : Val). ‵ (made.the-row α .own (started-with (r₀ .answer)) (z ∷ []))) w₀-is refl $
           -- what the result owns at 0, κ's token at 1, the pieces at 2, _15 to _0 from 3 on: _5 = _4.answer, _6 = _12 = _4.encoder, _13 = &mut _6
-          assigns ! (of-opd ! (load ! (from ! (fld ! refl (stop !))) (look-in ! 25 (sub ! 1 refl (whole !))))) (from ! (stop !)) (init ! 23 refl (enum.lawful opened.the-type opened′.the-laws 𝓤 H A W tt .typed (r₀ .answer) _ (fields .1 .0) .0)) $
-          assigns ! (of-opd ! (load ! (from ! (fld ! refl (stop !))) (look-in ! 25 (sub ! 0 refl (whole !))))) (from ! (stop !)) (init ! 9 refl h₀-typed) $
+          assigns ! (of-opd ! (load ! (from ! (fld ! {τ = opened′.mir} {d = 48} refl (stop !))) (look-in ! 25 {τ = opened′.mir} (sub ! 1 {τ = opened′.mir} {d = 48} refl (whole !))))) (from ! (stop !)) (init ! 23 refl (enum.lawful opened.the-type opened′.the-laws 𝓤 H A W tt .typed (r₀ .answer) _ (fields .1 .0) .0)) $
+          assigns ! (of-opd ! (load ! (from ! (fld ! {τ = held′.mir erased} {d = 0} refl (stop !))) (look-in ! 25 {τ = held′.mir erased} (sub ! 0 {τ = held′.mir erased} {d = 0} refl (whole !))))) (from ! (stop !)) (init ! 9 refl h₀-typed) $
           assigns ! (of-opd ! (load ! (from ! (stop !)) (look ! 9 refl))) (from ! (stop !)) (init ! 21 refl h₀-typed) $
           assigns ! (addr ! (from ! (stop !))) (from ! (stop !)) (init ! 7 refl (tt, tt)) $
-          use1 W (given (struct.val (made.the-type α) (made′.the-laws α) r ∷ [] ≡ struct.val (made.the-type α) (made′.the-laws α) r ∷ []) (‵ (all-own (made.the-type α .parts) (made′.the-laws α) (h₀, (r₀ .answer, tt)))))
-          (own-open 𝓤 H A W (made.the-type α) (made′.the-laws α) (h₀, (r₀ .answer, tt)) (struct.val (made.the-type α) (made′.the-laws α) r)) $ learn ! (λ _. fsplit ! $
+          use1 W (given (started-at (r₀ .answer) ∷ [] ≡ started-at (r₀ .answer) ∷ []) (‵ (all-own (made.the-type α .parts) (made′.the-laws α) (h₀, (r₀ .answer, tt)))))
+          (own-open 𝓤 H A W (made.the-type α) (made′.the-laws α) (h₀, (r₀ .answer, tt)) (started-at (r₀ .answer))) $ learn ! (λ _. fsplit ! $
           -- the encoder, its token and the cell of _6 are put together, the cell from 21: from here on it is out of its place
           move ! (0 ∷ 2 ∷ []) $ join ! $ move ! (21 ∷ 0 ∷ []) $ join ! $ move ! (2 ∷ []) $ split ! $ move ! (2 ∷ 0 ∷ []) $
           use2 W (later (some (λ (z : ℕ × GName). raw (Push 𝓤 H A W memory run .pre (taken 𝓤 H A W memory run κ q l₆ h₀ κa qa a z)) ⊛ raw (Kept 𝓤 H A W memory run κ q l₆ h₀ κa qa a z)))) (asks 𝓤 H A W memory run κ q l₆ h₀ κa qa a) $ await ! tt $ pick ! (λ z₁. split ! $
