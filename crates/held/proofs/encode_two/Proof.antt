@@ -53,7 +53,7 @@ use Rattle.held.specs.declared.Opened.{Opened}
 use Rattle.held.specs.declared.NewEncoder.{NewEncoder}
 use Rattle.held.specs.declared.TwoPieces.{TwoPieces}
 use Rattle.held.proofs.Lent.{slice-at}
-use Rattle.held.proofs.Local.{local, encoder-at, Piece, Push, Cell, Owned, Kept, taken, asks, Tells, gives}
+use Rattle.held.proofs.Local.{local, encoder-at, Piece, Tells, lending, Push, taken, asking, asks, giving, gives}
 use Rattle.held.proofs.Opened as opened
 use Rattle.held.proofs.Opened.Laws as opened′
 use Rattle.held.proofs.TwoPieces as answers
@@ -165,16 +165,16 @@ module _ {M : Type 1} (𝓤 : URA M) (H : Heap 𝓤) (A : Atoms 𝓤) (W : Given
 
     exits : (r : TwoPieces) → Is answers.the-row r (struct.val answers.the-type answers′.the-laws r ∷ []) → (zs : List ℕ)
         → toldTwo r ≡ twoTold (x .now) (a .now) (b .now) → zs ≡ twoDest (x .now) (a .now) (b .now) → length zs ≡ length (x .now)
-        → ent 𝓤 (⋆ 𝓤 H A ((‵ (flft κ q) ⊛ ‵ ftrue) ∷ ‵ (finally u8 (x .name) zs) ∷ (‵ (flft κa qa) ⊛ ‵ (Piece κa a)) ∷ (‵ (flft κb qb) ⊛ ‵ (Piece κb b)) ∷ [])) (Post (struct.val answers.the-type answers′.the-laws r))
+        → ent 𝓤 (⋆ 𝓤 H A ((‵ (flft κ q) ⊛ ‵ ftrue) ∷ ‵ (finally u8 (x .name) zs) ∷ lending 𝓤 κa qa a ∷ lending 𝓤 κb qb b ∷ [])) (Post (struct.val answers.the-type answers′.the-laws r))
     exits r is zs tells leaves same =
-        qed W ((‵ (flft κ q) ⊛ ‵ ftrue) ∷ ‵ (finally u8 (x .name) zs) ∷ (‵ (flft κa qa) ⊛ ‵ (Piece κa a)) ∷ (‵ (flft κb qb) ⊛ ‵ (Piece κb b)) ∷ []) ∵
+        qed W ((‵ (flft κ q) ⊛ ‵ ftrue) ∷ ‵ (finally u8 (x .name) zs) ∷ lending 𝓤 κa qa a ∷ lending 𝓤 κb qb b ∷ []) ∵
         suffices ! _ (ends-at 𝓤 H A two.ended left (two.clauses 𝓤 H A memory run) W (((κ, (κa, (κb, tt))), (q, (qa, (qb, tt))), tt, args, values), tt) (struct.val answers.the-type answers′.the-laws r) r (zs, (tt, (tt, tt))) (same, (tt, (tt, tt)))) $ says ! (tells, leaves) $
         -- the tokens are joined, then the last list and the pieces
         split ! $ move ! (4 ∷ []) $ split ! $ move ! (0 ∷ 3 ∷ []) $ join ! $ move ! (4 ∷ []) $ split ! $ move ! (0 ∷ 2 ∷ []) $ join ! $ move ! (3 ∷ 0 ∷ []) $ join ! $ frame ! $
         nothing ! $ move ! (2 ∷ 0 ∷ []) $ fjoin ! $ move ! (1 ∷ 0 ∷ []) $ fjoin ! $ move ! (1 ∷ 0 ∷ []) $ fjoin ! $
         owned ! answers.the-row (Is answers.the-row) (struct.makes answers.the-type answers′.the-plain 𝓤 H A) r _ is $ move ! (1 ∷ 0 ∷ []) $ done !
 
-    module _ (C : Calls 𝓤 H) (Λ : Loops 𝓤 H) (fm : FmC 𝓤 H (W .laws) C) (new-known : Triple 𝓤 (C new-code.name) New) (push-known : Triple 𝓤 (C push-code.name) (Push 𝓤 H A W memory run)) (finalize-known : Triple 𝓤 (C finalize-code.name) Finalize) where
+    module _ (C : Calls 𝓤 H) (Λ : Loops 𝓤 H) (fm : FmC 𝓤 H (W .laws) C) (new-known : Triple 𝓤 (C new-code.name) New) (push-known : Triple 𝓤 (C push-code.name) (Push 𝓤 H A memory run)) (finalize-known : Triple 𝓤 (C finalize-code.name) Finalize) where
       walk : Is (MutSlice (named 0) κ u8) x (slice-at x ∷ []) → Is (ShrSlice (named 1) κa u8) a (slice-at a ∷ []) → Is (ShrSlice (named 2) κb u8) b (slice-at b ∷ [])
           → ent 𝓤 (onEntry 𝓤 H A two.signature (κ, (κa, (κb, tt))) (q, (qa, (qb, tt))) args values) (WpFn 𝓤 H C Λ code.function (slice-at x ∷ slice-at a ∷ slice-at b ∷ []) Post)
       walk x-is a-is b-is =
@@ -184,7 +184,7 @@ module _ {M : Type 1} (𝓤 : URA M) (H : Heap 𝓤) (A : Atoms 𝓤) (W : Given
           -- _15 to _0 stand at 0, 2, .., 30, what is had at entry at 32: _11 = &mut *_1, _4 = new(_11)
           assigns ! (addr ! (from ! (fld ! refl (hop ! (look-in ! 28 (sub ! 0 refl (whole !))) (stop !))))) (from ! (stop !)) (init ! 10 refl (tt, tt)) $
           assigns ! (agg ! (and-then ! (load ! (from ! (stop !)) (look ! 10 refl)) (and-then ! (load ! (from ! (fld ! refl (stop !))) (look-in ! 28 (sub ! 1 refl (whole !)))) (no-more !)))) (from ! (stop !)) (init ! 8 refl (tt, (tt, (record { fits = x-is .0 .1 .0 }, tt)))) $
-          move ! (32 ∷ []) $ use1 W ((‵ (flft κ q) ⊛ ‵ (MutSlice (named 0) κ u8 .own x (slice-at x ∷ []))) ⊛ (‵ (flft κa qa) ⊛ ‵ (Piece κa a)) ⊛ (‵ (flft κb qb) ⊛ ‵ (Piece κb b))) sorted $ split ! $
+          move ! (32 ∷ []) $ use1 W ((‵ (flft κ q) ⊛ ‵ (MutSlice (named 0) κ u8 .own x (slice-at x ∷ []))) ⊛ lending 𝓤 κa qa a ⊛ lending 𝓤 κb qb b) sorted $ split ! $
           use1 W (raw (New .pre new-taken)) new-goes $ calls-at ! fm New new-known new-taken (and-then ! (load ! (from ! (stop !)) (look ! 10 refl)) (no-more !)) (λ w₀.
           use1 W (later (some (λ (r : NewEncoder). ((‵ (flft κ q) ⊛ ‵ ftrue) ⊛ ‵ (made.the-row α .own r (w₀ ∷ []))) ⊛ raw (ensured 𝓤 H A new.ended (new.clauses 𝓤 H A memory run) (κ, tt) (x, tt) tt r)))) (id⊢ 𝓤 _) $ await ! tt $ pick ! (λ r₀.
           split ! $ move ! (1 ∷ []) $ use1 W (raw (fact 𝓤 (Made r₀))) (new-told r₀) $ heard ! (Made r₀) (λ new-said. split ! $ split ! $ move ! (1 ∷ []) $ drop ! $ move ! (1 ∷ []) $
@@ -204,19 +204,17 @@ module _ {M : Type 1} (𝓤 : URA M) (H : Heap 𝓤) (A : Atoms 𝓤) (W : Given
           (own-open 𝓤 H A W (made.the-type α) (made′.the-laws α) (h₀, (r₀ .answer, tt)) (started-at (r₀ .answer))) $ learn ! (λ _. fsplit ! $
           -- the encoder, its token and the cell of _6 are put together, the cell from 21: from here on it is out of its place
           move ! (0 ∷ 2 ∷ []) $ join ! $ move ! (21 ∷ 0 ∷ []) $ join ! $ move ! (2 ∷ []) $ split ! $ move ! (2 ∷ 0 ∷ []) $
-          use2 W (later (some (λ (z : ℕ × GName). raw (Push 𝓤 H A W memory run .pre (taken 𝓤 H A W memory run κ q l₆ h₀ κa qa a z)) ⊛ raw (Kept 𝓤 H A W memory run κ q l₆ h₀ κa qa a z)))) (asks 𝓤 H A W memory run κ q l₆ h₀ κa qa a) $ await ! tt $ pick ! (λ z₁. split ! $
+          use2 W (asking 𝓤 H A W memory run κ q l₆ h₀ κa qa a) (asks 𝓤 H A W memory run κ q l₆ h₀ κa qa a) $ await ! tt $ pick ! (λ z₁. split ! $
           -- what `push` asks at 0, what is kept at 1, b at 2, the answer of `new` at 3, _15 to _7 from 4 on, _5 to _0 from 23 on: _7 = push(_13, _2)
-          calls-at ! fm (Push 𝓤 H A W memory run) push-known (taken 𝓤 H A W memory run κ q l₆ h₀ κa qa a z₁) (and-then ! (load ! (from ! (stop !)) (look ! 8 refl)) (and-then ! (load ! (from ! (stop !)) (look ! 29 refl)) (no-more !))) (λ w₁.
-          use2 W (later (some (λ (r : Accepted). (‵ (accepted.the-row .own r (w₁ ∷ [])) ⊛ (‵ (Cell 𝓤 H A W memory run κ q l₆ h₁) ⊛ ‵ (Owned 𝓤 H A W memory run κ q l₆ h₁) ⊛ ‵ (flft κ q)) ⊛ (‵ (flft κa qa) ⊛ ‵ (Piece κa a))) ⊛ raw (fact 𝓤 (Tells 𝓤 H A W memory run κ q l₆ h₀ κa qa a r)))))
-          (gives 𝓤 H A W memory run κ q l₆ h₀ κa qa a z₁ w₁) $ await ! tt $ pick ! (λ r₁. split ! $ move ! (1 ∷ []) $ heard ! (Tells 𝓤 H A W memory run κ q l₆ h₀ κa qa a r₁) (λ tells₁. split ! $
+          calls-at ! fm (Push 𝓤 H A memory run) push-known (taken 𝓤 H A W memory run κ q l₆ h₀ κa qa a z₁) (and-then ! (load ! (from ! (stop !)) (look ! 8 refl)) (and-then ! (load ! (from ! (stop !)) (look ! 29 refl)) (no-more !))) (λ w₁.
+          use2 W (giving 𝓤 H A W memory run κ q l₆ h₀ κa qa a w₁) (gives 𝓤 H A W memory run κ q l₆ h₀ κa qa a z₁ w₁) $ await ! tt $ pick ! (λ r₁. split ! $ move ! (1 ∷ []) $ heard ! (Tells h₀ a r₁) (λ tells₁. split ! $
           peeks ! accepted.the-row (Is accepted.the-row) (shows 𝓤 H A accepted.the-row) r₁ (w₁ ∷ []) (λ is₁.
           land ! (from ! (stop !)) (init ! 20 refl (enum.lawful accepted.the-type accepted′.the-laws 𝓤 H A W tt .typed r₁ _ is₁ .0)) $ rewrite ! 20 (λ (z : Val). ‵ (fat fullShare accepted′.mir l₇ 0 z)) (ap only (enum.tells accepted.the-type accepted′.the-laws r₁ _ is₁)) refl $ drop ! $
           -- the encoder and a at 0, b at 1: _14 = &mut _6, _8 = push(_14, _3)
           assigns ! (addr ! (from ! (stop !))) (from ! (stop !)) (init ! 5 refl (tt, tt)) $ split ! $ move ! (0 ∷ 2 ∷ []) $
-          use2 W (later (some (λ (z : ℕ × GName). raw (Push 𝓤 H A W memory run .pre (taken 𝓤 H A W memory run κ q l₆ h₁ κb qb b z)) ⊛ raw (Kept 𝓤 H A W memory run κ q l₆ h₁ κb qb b z)))) (asks 𝓤 H A W memory run κ q l₆ h₁ κb qb b) $ await ! tt $ pick ! (λ z₂. split ! $
-          calls-at ! fm (Push 𝓤 H A W memory run) push-known (taken 𝓤 H A W memory run κ q l₆ h₁ κb qb b z₂) (and-then ! (load ! (from ! (stop !)) (look ! 6 refl)) (and-then ! (load ! (from ! (stop !)) (look ! 27 refl)) (no-more !))) (λ w₂.
-          use2 W (later (some (λ (r : Accepted). (‵ (accepted.the-row .own r (w₂ ∷ [])) ⊛ (‵ (Cell 𝓤 H A W memory run κ q l₆ h₂) ⊛ ‵ (Owned 𝓤 H A W memory run κ q l₆ h₂) ⊛ ‵ (flft κ q)) ⊛ (‵ (flft κb qb) ⊛ ‵ (Piece κb b))) ⊛ raw (fact 𝓤 (Tells 𝓤 H A W memory run κ q l₆ h₁ κb qb b r)))))
-          (gives 𝓤 H A W memory run κ q l₆ h₁ κb qb b z₂ w₂) $ await ! tt $ pick ! (λ r₂. split ! $ move ! (1 ∷ []) $ heard ! (Tells 𝓤 H A W memory run κ q l₆ h₁ κb qb b r₂) (λ tells₂. split ! $
+          use2 W (asking 𝓤 H A W memory run κ q l₆ h₁ κb qb b) (asks 𝓤 H A W memory run κ q l₆ h₁ κb qb b) $ await ! tt $ pick ! (λ z₂. split ! $
+          calls-at ! fm (Push 𝓤 H A memory run) push-known (taken 𝓤 H A W memory run κ q l₆ h₁ κb qb b z₂) (and-then ! (load ! (from ! (stop !)) (look ! 6 refl)) (and-then ! (load ! (from ! (stop !)) (look ! 27 refl)) (no-more !))) (λ w₂.
+          use2 W (giving 𝓤 H A W memory run κ q l₆ h₁ κb qb b w₂) (gives 𝓤 H A W memory run κ q l₆ h₁ κb qb b z₂ w₂) $ await ! tt $ pick ! (λ r₂. split ! $ move ! (1 ∷ []) $ heard ! (Tells h₁ b r₂) (λ tells₂. split ! $
           peeks ! accepted.the-row (Is accepted.the-row) (shows 𝓤 H A accepted.the-row) r₂ (w₂ ∷ []) (λ is₂.
           land ! (from ! (stop !)) (init ! 18 refl (enum.lawful accepted.the-type accepted′.the-laws 𝓤 H A W tt .typed r₂ _ is₂ .0)) $ rewrite ! 18 (λ (z : Val). ‵ (fat fullShare accepted′.mir l₈ 0 z)) (ap only (enum.tells accepted.the-type accepted′.the-laws r₂ _ is₂)) refl $ drop ! $
           -- the encoder and b at 0, a at 1: taken apart, what it owns at 0, its token at 1, its cell at 2, _15 to _7 from 6 on: _15 = _6, _9 = finalize(_15)
@@ -238,7 +236,7 @@ module _ {M : Type 1} (𝓤 : URA M) (H : Heap 𝓤) (A : Atoms 𝓤) (W : Given
           keep ! (1 ∷ 2 ∷ 6 ∷ 5 ∷ []) $ by ! (exits t t-is (ws .0 .0) (all-told (x .now) (a .now) (b .now) t (ws .0 .0) (new-said .0) tells₁ tells₂ (ended .0)) (at-last (x .now) (a .now) (b .now) t (ws .0 .0) (ended .1))
           (same ∙ (length-dest (next₁ (x .now) (a .now)) (b .now) (dest₁ (x .now) (a .now)) ∙ length-dest fresh (a .now) (x .now))))))))))))))))))))))))))))))))))))))))))
 
-  walks : (C : Calls 𝓤 H) (Λ : Loops 𝓤 H) → FmC 𝓤 H (W .laws) C → Triple 𝓤 (C new-code.name) New → Triple 𝓤 (C push-code.name) (Push 𝓤 H A W memory run) → Triple 𝓤 (C finalize-code.name) Finalize
+  walks : (C : Calls 𝓤 H) (Λ : Loops 𝓤 H) → FmC 𝓤 H (W .laws) C → Triple 𝓤 (C new-code.name) New → Triple 𝓤 (C push-code.name) (Push 𝓤 H A memory run) → Triple 𝓤 (C finalize-code.name) Finalize
       → Walks 𝓤 H A two.ended left (WpFn 𝓤 H C Λ code.function) (two.clauses 𝓤 H A memory run)
   walks C Λ fm new-known push-known finalize-known =
       walked 𝓤 H A two.ended left (two.clauses 𝓤 H A memory run) (WpFn 𝓤 H C Λ code.function) (λ κs. (slice-vals, (slice-vals, (slice-vals, tt))))
@@ -246,7 +244,7 @@ module _ {M : Type 1} (𝓤 : URA M) (H : Heap 𝓤) (A : Atoms 𝓤) (W : Given
       (λ κs qs bounds a _ are. via 𝓤 _ (fst∗ 𝓤 _ (emp 𝓤))
       (walk (κs .0) (κs .1 .0) (κs .1 .1 .0) (qs .0) (qs .1 .0) (qs .1 .1 .0) (a .0) (a .1 .0) (a .1 .1 .0) C Λ fm new-known push-known finalize-known (are .0) (are .1 .0) (are .1 .1 .0)))
 
-  meets : (𝓣 : Tables 𝓤 H) → Triple 𝓤 (𝓣 .C new-code.name) New → Triple 𝓤 (𝓣 .C push-code.name) (Push 𝓤 H A W memory run) → Triple 𝓤 (𝓣 .C finalize-code.name) Finalize
+  meets : (𝓣 : Tables 𝓤 H) → Triple 𝓤 (𝓣 .C new-code.name) New → Triple 𝓤 (𝓣 .C push-code.name) (Push 𝓤 H A memory run) → Triple 𝓤 (𝓣 .C finalize-code.name) Finalize
       → Meets 𝓤 H A two.signature (WpFn 𝓤 H (𝓣 .C) (𝓣 .Λ) code.function) (two.spec 𝓤 H A memory run)
   meets 𝓣 new-known push-known finalize-known =
       walk-meets 𝓤 H A two.ended left W (goes-gave-slice 𝓤 H A W 3 0 tt (plain (λ _. u8)), (goes-none-slice 𝓤 H A W 3 (1 ∷ []) tt (plain (λ _. u8)) yes, (goes-none-slice 𝓤 H A W 3 (2 ∷ []) tt (plain (λ _. u8)) yes, tt))) (two.clauses 𝓤 H A memory run)
@@ -260,5 +258,5 @@ encode-two-spec 𝓤 H 𝓜 𝓖 𝓡 =
     (tables 𝓤 H 𝓜 𝓡 code.env .C) (tables 𝓤 H 𝓜 𝓡 code.env .Λ) name code.function (code.unfolded 𝓤 H 𝓜 𝓡)
     (meets 𝓤 H (𝓖 .A) W (𝓜 .mem) (𝓡 .run) (tablesOf 𝓤 H 𝓜 (tables 𝓤 H 𝓜 𝓡 code.env))
     (cited 𝓤 H (New 𝓤 H (𝓖 .A) W (𝓜 .mem) (𝓡 .run)) 𝓜 𝓡 code.env new-code.name new-code.routine code.calls-held·CobsEncoder·new (new-met.met 𝓤 H 𝓜 𝓖 𝓡))
-    (cited 𝓤 H (Push 𝓤 H (𝓖 .A) W (𝓜 .mem) (𝓡 .run)) 𝓜 𝓡 code.env push-code.name push-code.routine code.calls-held·CobsEncoder·push (push-met.met 𝓤 H 𝓜 𝓖 𝓡))
+    (cited 𝓤 H (Push 𝓤 H (𝓖 .A) (𝓜 .mem) (𝓡 .run)) 𝓜 𝓡 code.env push-code.name push-code.routine code.calls-held·CobsEncoder·push (push-met.met 𝓤 H 𝓜 𝓖 𝓡))
     (cited 𝓤 H (Finalize 𝓤 H (𝓖 .A) W (𝓜 .mem) (𝓡 .run)) 𝓜 𝓡 code.env finalize-code.name finalize-code.routine code.calls-held·CobsEncoder·finalize (finalize-met.met 𝓤 H 𝓜 𝓖 𝓡)))
