@@ -42,7 +42,8 @@ module _ (κ : Lft) (q : Share) (x : RefT (List ℕ)) where
   abbrev pub Away : ℕ × GName → Fml
   Away z =
       fsep (flent (z .0 ∷ []) (Bytes (z .1)))
-      (fsep (fobor κ q (Bytes (x .name))) (fsep (fobs (x .name) (codedHoleys u8 .code (heres u8 (x .now)))) (fauth (x .name) (codedHoleys u8 .code (heres u8 (x .now))))))
+      (fsep (fobor κ q (Bytes (x .name)))
+      (fsep (fobs (x .name) (codedHoleys u8 .code (heres u8 (x .now)))) (fauth (x .name) (codedHoleys u8 .code (heres u8 (x .now))))))
 
   module _ {M : Type 1} (𝓤 : URA M) (H : Heap 𝓤) (A : Atoms 𝓤) (W : Given 𝓤 H A) (ℓ : Lifetime) where
     abbrev pub LentOn : ℕ × GName → SProp 𝓤
@@ -55,7 +56,8 @@ module _ (κ : Lft) (q : Share) (x : RefT (List ℕ)) where
         qed W (‵ (MutSlice ℓ κ u8 .own x (slice-at x ∷ [])) ∷ ‵ (flft κ q) ∷ []) ∵ updating ! $ lft-new ! tt (λ ν. move ! (1 ∷ 2 ∷ []) $
         fsplit ! $ pureL ! (at-slice u8 x (slice-at x ∷ [])) (λ is. fsplit ! $ opens-slice ! tt u8 (x .now) (x .ptr .0) (x .ptr .1) $
         use1 W (‵ (cells (mem u8) (x .now) (x .ptr .0) (x .ptr .1))) (whole-in 𝓤 H A W u8 (x .now) (x .ptr .0) (x .ptr .1)) $
-        use1 W (later (some (λ (δ : GName). ‵ (MutSlice (named 0) (ν ∷ []) u8 .own (under x δ (x .now)) (slice-at x ∷ [])) ⊛ ‵ (flent (ν ∷ []) (Bytes δ)))))
+        use1 W (later (some (λ (δ : GName). ‵ (MutSlice (named 0) (ν ∷ []) u8 .own (under x δ (x .now)) (slice-at x ∷ [])) ⊛
+        ‵ (flent (ν ∷ []) (Bytes δ)))))
         (lends-slice 𝓤 H A W u8 (named 0) (ν ∷ []) (x .now) (x .ptr .0) (x .ptr .1) (is .1)) $ await ! tt $ pick ! (λ δ. split ! $
         -- the slice for ν at 0, the right to have it back at 1, x's open borrow at 2 to 4, ν's token at 5
         at-once ! $ show ! LentOn (ν, δ) $ frame ! $ move ! (4 ∷ []) $ frame ! $
@@ -65,9 +67,13 @@ module _ (κ : Lft) (q : Share) (x : RefT (List ℕ)) where
         → ent 𝓤 (sep 𝓤 (A .lft (z .0 ∷ []) fullShare) (sep 𝓤 (sem 𝓤 H A (Away z)) (sem 𝓤 H A (finally u8 (z .1) zs))))
         (H .⇛ (sep 𝓤 (sem 𝓤 H A (MutSlice ℓ κ u8 .own (under x (x .name) zs) (slice-at x ∷ []))) (A .lft κ q)))
     comes-home z zs room same =
-        qed W (‵ (flft (z .0 ∷ []) fullShare) ∷ ‵ (Away z) ∷ ‵ (finally u8 (z .1) zs) ∷ []) ∵ updating ! $ lft-end ! tt $ move ! (1 ∷ []) $ fsplit ! $ move ! (2 ∷ 0 ∷ 3 ∷ []) $
-        use3 W (later (‵ (Arr (mem u8) (length (x .now)) .lies zs (x .ptr .0) (x .ptr .1)))) (slice-back 𝓤 H A W u8 (z .0 ∷ []) (z .1) zs (length (x .now)) (x .ptr .0) (x .ptr .1)) $ await ! tt $
+        qed W (‵ (flft (z .0 ∷ []) fullShare) ∷ ‵ (Away z) ∷ ‵ (finally u8 (z .1) zs) ∷ []) ∵ updating ! $ lft-end ! tt $ move ! (1 ∷ []) $ fsplit ! $
+        move ! (2 ∷ 0 ∷ 3 ∷ []) $
+        use3 W (later (‵ (Arr (mem u8) (length (x .now)) .lies zs (x .ptr .0) (x .ptr .1))))
+        (slice-back 𝓤 H A W u8 (z .0 ∷ []) (z .1) zs (length (x .now)) (x .ptr .0) (x .ptr .1)) $ await ! tt $
         fsplit ! $ drop ! $ use1 W (‵ (row u8 fullShare zs (x .ptr .0) (x .ptr .1))) (whole-out 𝓤 H A W u8 zs (x .ptr .0) (x .ptr .1)) $
         -- the bytes at 0, x's open borrow at 1: it is shut on them
-        move ! (1 ∷ []) $ fsplit ! $ move ! (1 ∷ []) $ fsplit ! $ move ! (3 ∷ 2 ∷ 0 ∷ 1 ∷ []) $ closes-slice ! tt u8 (x .now) zs same (x .ptr .0) (x .ptr .1) $ at-once ! $
-        fjoin ! $ pureI ! (at-slice u8 (under x (x .name) zs) (slice-at x ∷ [])) (tt, (tt, tt)) (ap (λ (n : ℕ). sliceVal (x .ptr) n ∷ []) (sym same), subst (Room u8) (sym same) room) $ fjoin ! $ done !
+        move ! (1 ∷ []) $ fsplit ! $ move ! (1 ∷ []) $ fsplit ! $ move ! (3 ∷ 2 ∷ 0 ∷ 1 ∷ []) $
+        closes-slice ! tt u8 (x .now) zs same (x .ptr .0) (x .ptr .1) $ at-once ! $
+        fjoin ! $ pureI ! (at-slice u8 (under x (x .name) zs) (slice-at x ∷ [])) (tt, (tt, tt))
+        (ap (λ (n : ℕ). sliceVal (x .ptr) n ∷ []) (sym same), subst (Room u8) (sym same) room) $ fjoin ! $ done !

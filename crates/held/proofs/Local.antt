@@ -102,7 +102,8 @@ module _ {M : Type 1} (𝓤 : URA M) (H : Heap 𝓤) (A : Atoms 𝓤) (W : Given
         use1 W (‵ (Cell κ l h)) (W .laws .raw-at fullShare (held′.mir erased) l 0 (encoder-at κ h)) $ done !)
 
   -- The encoder h in the local l, its slice lent for κ; the piece p, lent for κ′.
-  module _ (memory : Memory → SProp 𝓤) (run : Routine → Fun 𝓤) (κ : Lft) (q : Share) (l : ℕ) (h : CobsEncoder) (κ′ : Lft) (q′ : Share) (p : RefT (List ℕ)) where
+  module _ (memory : Memory → SProp 𝓤) (run : Routine → Fun 𝓤) (κ : Lft) (q : Share) (l : ℕ) (h : CobsEncoder) (κ′ : Lft) (q′ : Share)
+      (p : RefT (List ℕ)) where
     -- The local lent for the lifetime z .0 within κ, under the name z .1.
     abbrev lent : ℕ × GName → RefT CobsEncoder
     lent z = record { ptr = (l, 0); name = z .1; now = h }
@@ -118,9 +119,16 @@ module _ {M : Type 1} (𝓤 : URA M) (H : Heap 𝓤) (A : Atoms 𝓤) (W : Given
     kept z = ‵ (Behind z) ⊛ raw (Rest 𝓤 H A W (z .0) (PosShare·right q)) ⊛ ‵ (Piece κ′ p)
 
     abbrev pub taken : ℕ × GName → Push 𝓤 H A memory run .Ghost
-    taken z =
-        (((z .0 ∷ κ, (κ, (κ′, tt))), (PosShare·right q, (PosShare·left q, (q′, tt))), (meet-⊑-right (z .0 ∷ []) κ, tt),
-        (lent z, (p, tt)), (vptr l 0 ∷ [], (slice-at p ∷ [], tt))), tt)
+    taken z = (
+      (
+        (z .0 ∷ κ, (κ, (κ′, tt))),
+        (PosShare·right q, (PosShare·left q, (q′, tt))),
+        (meet-⊑-right (z .0 ∷ []) κ, tt),
+        (lent z, (p, tt)),
+        (vptr l 0 ∷ [], (slice-at p ∷ [], tt)),
+      ),
+      tt,
+    )
 
     abbrev tokens : ℕ × GName → Item 𝓤
     tokens z = ‵ (flft (z .0 ∷ κ) (PosShare·right q)) ⊛ ‵ (flft κ (PosShare·left q)) ⊛ ‵ (flft κ′ q′) ⊛ ‵ ftrue
@@ -136,15 +144,21 @@ module _ {M : Type 1} (𝓤 : URA M) (H : Heap 𝓤) (A : Atoms 𝓤) (W : Given
         qed W (standing 𝓤 κ q l h ∷ lending 𝓤 κ′ q′ p ∷ []) ∵ updating ! $ split ! $ move ! (1 ∷ []) $ split ! $ move ! (2 ∷ 0 ∷ []) $
         use2 W (‵ (partAt (row κ) fullShare h l 0)) (lies κ l h) $ move ! (1 ∷ []) $
         -- κ's token is halved, and a lifetime a made within its right half
-        use1 W (‵ (flft κ (PosShare·left q)) ⊛ ‵ (flft κ (PosShare·right q))) (W .lfts .lft-split κ q) $ split ! $ lft-new ! tt (λ a. move ! (0 ∷ 2 ∷ []) $
-        use2 W (‵ (flft (a ∷ κ) (PosShare·right q)) ⊛ raw (Rest 𝓤 H A W a (PosShare·right q))) (within-token 𝓤 H A W a κ (PosShare·right q)) $ split ! $ move ! (3 ∷ []) $
-        use1 W (later (some (λ (γ : GName). ‵ (reference (a, γ)) ⊛ ‵ (Behind (a, γ))))) (lends-ref 𝓤 H A W (row κ) (named 0) (a ∷ κ) h l 0) $ await ! tt $ pick ! (λ γ. split ! $
+        use1 W (‵ (flft κ (PosShare·left q)) ⊛ ‵ (flft κ (PosShare·right q))) (W .lfts .lft-split κ q) $ split ! $
+        lft-new ! tt (λ a. move ! (0 ∷ 2 ∷ []) $
+        use2 W (‵ (flft (a ∷ κ) (PosShare·right q)) ⊛ raw (Rest 𝓤 H A W a (PosShare·right q))) (within-token 𝓤 H A W a κ (PosShare·right q)) $
+        split ! $ move ! (3 ∷ []) $
+        use1 W (later (some (λ (γ : GName). ‵ (reference (a, γ)) ⊛ ‵ (Behind (a, γ))))) (lends-ref 𝓤 H A W (row κ) (named 0) (a ∷ κ) h l 0) $
+        await ! tt $ pick ! (λ γ. split ! $
         -- the reference at 0, the right to have it back at 1, the loan's token at 2, the way to end it at 3, κ's left half at 4, the piece at 5
-        move ! (5 ∷ []) $ split ! $ move ! (1 ∷ []) $ use1 W (‵ (Piece κ′ p) ⊛ ‵ (Piece κ′ p)) (shr-slice-copy 𝓤 H A W (named 0) κ′ u8 .twice p (slice-at p ∷ [])) $ split ! $
+        move ! (5 ∷ []) $ split ! $ move ! (1 ∷ []) $
+        use1 W (‵ (Piece κ′ p) ⊛ ‵ (Piece κ′ p)) (shr-slice-copy 𝓤 H A W (named 0) κ′ u8 .twice p (slice-at p ∷ [])) $ split ! $
         nothing ! $ move ! (1 ∷ 0 ∷ []) $ fjoin ! $ move ! (3 ∷ 0 ∷ []) $ fjoin ! $
         -- what `push` owns at 0, the other copy at 1, the piece's token at 2, then 3 to 6 as before: the tokens are joined
-        nothing ! $ move ! (3 ∷ 0 ∷ []) $ join ! $ move ! (6 ∷ 0 ∷ []) $ join ! $ move ! (4 ∷ 0 ∷ []) $ join ! $ use2 W (raw (Push 𝓤 H A memory run .pre (taken (a, γ)))) (goes (a, γ)) $
-        at-once ! $ show ! (λ (z : ℕ × GName). sep 𝓤 (Push 𝓤 H A memory run .pre (taken z)) (mean 𝓤 H A (kept z))) (a, γ) $ frame ! $ move ! (1 ∷ 2 ∷ 0 ∷ []) $ done !))
+        nothing ! $ move ! (3 ∷ 0 ∷ []) $ join ! $ move ! (6 ∷ 0 ∷ []) $ join ! $ move ! (4 ∷ 0 ∷ []) $ join ! $
+        use2 W (raw (Push 𝓤 H A memory run .pre (taken (a, γ)))) (goes (a, γ)) $
+        at-once ! $ show ! (λ (z : ℕ × GName). sep 𝓤 (Push 𝓤 H A memory run .pre (taken z)) (mean 𝓤 H A (kept z))) (a, γ) $ frame ! $
+        move ! (1 ∷ 2 ∷ 0 ∷ []) $ done !))
 
     abbrev given-back : Val → Accepted → Item 𝓤
     given-back w r = ‵ (accepted.the-row .own r (w ∷ [])) ⊛ standing 𝓤 κ q l (pushed h (p .now)) ⊛ lending 𝓤 κ′ q′ p
@@ -156,17 +170,25 @@ module _ {M : Type 1} (𝓤 : URA M) (H : Heap 𝓤) (A : Atoms 𝓤) (W : Given
     gives z w =
         let after = pushed h (p .now) in
         qed W (raw (Push 𝓤 H A memory run .post (taken z) w) ∷ kept z ∷ []) ∵ updating ! $
-        use1 W (later (some (λ (r : Accepted). (tokens z ⊛ ‵ (accepted.the-row .own r (w ∷ []))) ⊛ raw (ensured 𝓤 H A push.ended (push.clauses 𝓤 H A memory run) (z .0 ∷ κ, (κ, (κ′, tt))) (lent z, (p, tt)) tt r)))) (id⊢ 𝓤 _) $
+        use1 W (later (some (λ (r : Accepted). (tokens z ⊛ ‵ (accepted.the-row .own r (w ∷ []))) ⊛
+        raw (ensured 𝓤 H A push.ended (push.clauses 𝓤 H A memory run) (z .0 ∷ κ, (κ, (κ′, tt))) (lent z, (p, tt)) tt r)))) (id⊢ 𝓤 _) $
         await ! tt $ pick ! (λ r. split ! $ move ! (1 ∷ []) $
-        use1 W (some (λ (ws : CobsEncoder × (Unit {0} × Unit {0})). ‵ (lasts push.ended (z .0 ∷ κ, (κ, (κ′, tt))) (lent z, (p, tt)) ws) ⊛ raw (fact 𝓤 (Tells h p r × (ws .0 ≡ after))))) (id⊢ 𝓤 _) $ pick ! (λ ws.
-        split ! $ move ! (1 ∷ []) $ heard ! (Tells h p r × (ws .0 ≡ after)) (λ said. fsplit ! $ rewrite ! 0 (λ (u : CobsEncoder). ‵ (fres (z .1) (row κ .coded .code u))) (said .1) refl $
+        use1 W (some (λ (ws : CobsEncoder × (Unit {0} × Unit {0})). ‵ (lasts push.ended (z .0 ∷ κ, (κ, (κ′, tt))) (lent z, (p, tt)) ws) ⊛
+        raw (fact 𝓤 (Tells h p r × (ws .0 ≡ after))))) (id⊢ 𝓤 _) $ pick ! (λ ws.
+        split ! $ move ! (1 ∷ []) $ heard ! (Tells h p r × (ws .0 ≡ after)) (λ said. fsplit ! $
+        rewrite ! 0 (λ (u : CobsEncoder). ‵ (fres (z .1) (row κ .coded .code u))) (said .1) refl $
         -- the last value at 0, the tokens and the answer at 2, what stayed behind at 3: the loan is ended
-        move ! (2 ∷ []) $ split ! $ split ! $ move ! (1 ∷ []) $ split ! $ move ! (6 ∷ []) $ split ! $ move ! (1 ∷ []) $ split ! $ move ! (5 ∷ 0 ∷ []) $
-        use2 W (later (‵ (fdead (z .0 ∷ κ)) ⊛ ‵ (flft κ (PosShare·right q)))) (within-end 𝓤 H A W (z .0) κ (PosShare·right q)) $ await ! tt $ split ! $
+        move ! (2 ∷ []) $ split ! $ split ! $ move ! (1 ∷ []) $ split ! $ move ! (6 ∷ []) $ split ! $ move ! (1 ∷ []) $ split ! $
+        move ! (5 ∷ 0 ∷ []) $
+        use2 W (later (‵ (fdead (z .0 ∷ κ)) ⊛ ‵ (flft κ (PosShare·right q)))) (within-end 𝓤 H A W (z .0) κ (PosShare·right q)) $ await ! tt $
+        split ! $
         -- the end at 0, κ's right half at 1, the piece at 2, the right to have the local back at 3, κ's left half at 4, the piece's token at 5,
         -- the answer at 6, the last value at 7: the local is back
-        move ! (0 ∷ 3 ∷ 7 ∷ []) $ use3 W (later (‵ (partAt (row κ) fullShare after l 0))) (ref-back 𝓤 H A W (row κ) (z .0 ∷ κ) (z .1) after l 0) $ await ! tt $
-        use1 W (‵ (Cell κ l after) ⊛ ‵ (Owned κ after)) (stands κ l after) $ split ! $ move ! (4 ∷ 2 ∷ []) $ use2 W (‵ (flft κ q)) (W .lfts .lft-join κ q) $
+        move ! (0 ∷ 3 ∷ 7 ∷ []) $ use3 W (later (‵ (partAt (row κ) fullShare after l 0))) (ref-back 𝓤 H A W (row κ) (z .0 ∷ κ) (z .1) after l 0) $
+        await ! tt $
+        use1 W (‵ (Cell κ l after) ⊛ ‵ (Owned κ after)) (stands κ l after) $ split ! $ move ! (4 ∷ 2 ∷ []) $
+        use2 W (‵ (flft κ q)) (W .lfts .lft-join κ q) $
         -- κ's token at 0, the cell at 1, what it owns at 2, the piece at 3, its token at 4, the answer at 5
-        at-once ! $ show ! (λ (s : Accepted). sep 𝓤 (mean 𝓤 H A (given-back w s)) (fact 𝓤 (Tells h p s))) r $ says ! (said .0) $ move ! (5 ∷ []) $ frame ! $ move ! (2 ∷ 0 ∷ []) $ join ! $ move ! (1 ∷ 0 ∷ []) $ join ! $
+        at-once ! $ show ! (λ (s : Accepted). sep 𝓤 (mean 𝓤 H A (given-back w s)) (fact 𝓤 (Tells h p s))) r $ says ! (said .0) $ move ! (5 ∷ []) $
+        frame ! $ move ! (2 ∷ 0 ∷ []) $ join ! $ move ! (1 ∷ 0 ∷ []) $ join ! $
         move ! (2 ∷ []) $ split ! $ move ! (0 ∷ 3 ∷ []) $ join ! $ move ! (2 ∷ 0 ∷ []) $ keep ! (0 ∷ 1 ∷ []) $ done !)))

@@ -47,7 +47,8 @@ unique-new x r s p q i = record { encoder = (p .1 ∙ sym (q .1)) i; answer = on
 one-answer : (e : Encoder) (piece d : List ℕ) (r s : Accepted) → told r ≡ pushTold e piece (length d) → told s ≡ pushTold e piece (length d) → r ≡ s
 one-answer e piece d r s p q =
     ap (λ (z : Pushed). z .answer)
-    (unique-Encoder-push e piece d (with-next r) (with-next s) _ _ (record { answer = p; next = refl; memory = refl }) (record { answer = q; next = refl; memory = refl }) .0)
+    (unique-Encoder-push e piece d (with-next r) (with-next s) _ _ (record { answer = p; next = refl; memory = refl })
+    (record { answer = q; next = refl; memory = refl }) .0)
   where
     with-next : Accepted → Pushed
     with-next a = record { answer = a; next = pushNext e piece (length d) }
@@ -56,7 +57,8 @@ one-answer e piece d r s p q =
 abbrev Pushes : (e : CobsEncoder) (piece : List ℕ) → Accepted → CobsEncoder → Type 0
 Pushes e piece r after = (told r ≡ pushTold (e .encoder) piece (length (now (e .dest)))) × (after ≡ pushed e piece)
 
-pub unique-push : (e : CobsEncoder) (piece : List ℕ) (r s : Accepted) (k l : CobsEncoder) → Pushes e piece r k → Pushes e piece s l → (r ≡ s) × (k ≡ l)
+pub unique-push : (e : CobsEncoder) (piece : List ℕ) (r s : Accepted) (k l : CobsEncoder) → Pushes e piece r k → Pushes e piece s l
+    → (r ≡ s) × (k ≡ l)
 unique-push e piece r s k l p q = (one-answer (e .encoder) piece (now (e .dest)) r s (p .0) (q .0), p .1 ∙ sym (q .1))
 
 -- What `finalize` promises of its answer r and of the slice after it.
@@ -82,5 +84,6 @@ module _ (d a b : List ℕ) (r s : TwoPieces) where
     finished = unique-Encoder-finalize (next₂ d a b) (dest₂ d a b) (r .finished) (s .finished) _ _ (ap (answer 3) p) (ap (answer 3) q) refl refl .0 i;
   }
 
-  pub unique-encode-two : (k l : List ℕ) → (toldTwo r ≡ twoTold d a b) × (k ≡ twoDest d a b) → (toldTwo s ≡ twoTold d a b) × (l ≡ twoDest d a b) → (r ≡ s) × (k ≡ l)
+  pub unique-encode-two : (k l : List ℕ) → (toldTwo r ≡ twoTold d a b) × (k ≡ twoDest d a b) → (toldTwo s ≡ twoTold d a b) × (l ≡ twoDest d a b)
+      → (r ≡ s) × (k ≡ l)
   unique-encode-two k l p q = (one-two (p .0) (q .0), p .1 ∙ sym (q .1))
