@@ -81,7 +81,8 @@ impl DecoderState {
 
     /// Takes one byte where the state stands: `step`, and the next state written back.
     pub fn feed(&mut self, data: u8) -> DecodeResult
-        ensures { λ r. ⌜ (r ≡ stepped (now (self .entry)) «data» .result) × (now (self .exit) ≡ stepped (now (self .entry)) «data» .state) ⌝ }
+        ensures { λ r. ⌜ (r ≡ stepped (now (self .entry)) «data» .result)
+            × (now (self .exit) ≡ stepped (now (self .entry)) «data» .state) ⌝ }
     {
         let state = *self;
         let next = state.step(data);

@@ -9,6 +9,7 @@ ghost use lib.ListN.{length};
 ghost use Rattle.enc.specs.Stream.{fresh, started, told, pushTold, toldFinished, finishTold, finishDest};
 ghost use Rattle.held.specs.Held.{toldOpened, toldStarted, over, pushed, toldTwo, twoTold, twoDest};
 
+/// The lent buffer, and the encoder that writes to it.
 pub struct CobsEncoder<'a> {
     pub dest: &'a mut [u8],
     pub encoder: Encoder,
@@ -42,7 +43,8 @@ struct Opening {
 impl<'a> CobsEncoder<'a> {
     /// An encoder on this buffer, which it leaves as it is.
     pub fn new(dest: &'a mut [u8]) -> NewEncoder<'a>
-        ensures { λ r. ⌜ (toldOpened (r .answer) ≡ toldStarted (started (length (now (dest .entry))))) × (r .encoder ≡ over (dest .entry)) ⌝ }
+        ensures { λ r. ⌜ (toldOpened (r .answer) ≡ toldStarted (started (length (now (dest .entry)))))
+            × (r .encoder ≡ over (dest .entry)) ⌝ }
     {
         let opening = start_on(&mut *dest);
         NewEncoder {
@@ -56,7 +58,8 @@ impl<'a> CobsEncoder<'a> {
 
     /// Takes the whole piece, or refuses it and changes nothing.
     pub fn push<'s, 'p>(&'s mut self, piece: &'p [u8]) -> Accepted
-        ensures { λ r. ⌜ (told r ≡ pushTold (now (self .entry) .encoder) (now (piece .entry)) (length (now (now (self .entry) .dest)))) × (now (self .exit) ≡ pushed (now (self .entry)) (now (piece .entry))) ⌝ }
+        ensures { λ r. ⌜ (told r ≡ pushTold (now (self .entry) .encoder) (now (piece .entry)) (length (now (now (self .entry) .dest))))
+            × (now (self .exit) ≡ pushed (now (self .entry)) (now (piece .entry))) ⌝ }
     {
         let encoder = self.encoder;
         let next = encoder.push(&mut *self.dest, piece);
@@ -66,7 +69,8 @@ impl<'a> CobsEncoder<'a> {
 
     /// Writes the open code and answers the encoding's length. The slice is free again.
     pub fn finalize(self) -> Finished
-        ensures { λ r. ⌜ (toldFinished r ≡ finishTold (self .entry .encoder) (length (now (self .entry .dest)))) × (now (self .exit .0) ≡ finishDest (self .entry .encoder) (now (self .entry .dest))) ⌝ }
+        ensures { λ r. ⌜ (toldFinished r ≡ finishTold (self .entry .encoder) (length (now (self .entry .dest))))
+            × (now (self .exit .0) ≡ finishDest (self .entry .encoder) (now (self .entry .dest))) ⌝ }
     {
         let encoder = self.encoder;
         encoder.finalize(&mut *self.dest)
@@ -75,7 +79,8 @@ impl<'a> CobsEncoder<'a> {
 
 /// Two pieces through one encoder, from the buffer lent to the buffer back.
 pub fn encode_two(dest: &mut [u8], first: &[u8], second: &[u8]) -> TwoPieces
-    ensures { λ r. ⌜ (toldTwo r ≡ twoTold (now (dest .entry)) (now (first .entry)) (now (second .entry))) × (now (dest .exit) ≡ twoDest (now (dest .entry)) (now (first .entry)) (now (second .entry))) ⌝ }
+    ensures { λ r. ⌜ (toldTwo r ≡ twoTold (now (dest .entry)) (now (first .entry)) (now (second .entry)))
+        × (now (dest .exit) ≡ twoDest (now (dest .entry)) (now (first .entry)) (now (second .entry))) ⌝ }
 {
     let made = CobsEncoder::new(dest);
     let opened = made.answer;
@@ -91,7 +96,8 @@ pub fn encode_two(dest: &mut [u8], first: &[u8], second: &[u8]) -> TwoPieces
     }
 }
 
-// Where no encoder can start, a fresh one is made all the same, which goes with no buffer of length 0.
+// The encoder to begin with. Where none can start it is a fresh one all the same, which on a buffer of length 0 is a BadState.
+// The slice is only read; it is taken as `new` has it, so that one way of lending it on serves every call.
 fn start_on(dest: &mut [u8]) -> Opening
     ensures answer { λ r. ⌜ toldOpened (r .answer) ≡ toldStarted (started (length (now (dest .entry)))) ⌝ }
     ensures encoder { λ r. ⌜ r .encoder ≡ fresh ⌝ }

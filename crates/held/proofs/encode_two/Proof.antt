@@ -89,9 +89,9 @@ module _ (d a b : List ℕ) (r : TwoPieces) (zs : List ℕ) where
   unfolding twoTold
   all-told o f s e i = o i ∷ f i ∷ s i ∷ e i ∷ []
 
-  at-last : zs ≡ finishDest (next₂ d a b) (dest₂ d a b) → zs ≡ twoDest d a b
+  buffer-after : zs ≡ finishDest (next₂ d a b) (dest₂ d a b) → zs ≡ twoDest d a b
   unfolding twoDest
-  at-last e = e
+  buffer-after e = e
 
 module _ {M : Type 1} (𝓤 : URA M) (H : Heap 𝓤) (A : Atoms 𝓤) (W : Given 𝓤 H A) (memory : Memory → SProp 𝓤) (run : Routine → Fun 𝓤) where
   abbrev New : Contract 𝓤
@@ -299,7 +299,7 @@ module _ {M : Type 1} (𝓤 : URA M) (H : Heap 𝓤) (A : Atoms 𝓤) (W : Given
           move ! (8 ∷ 9 ∷ []) $ free1 ! $ free0 ! $
           keep ! (1 ∷ 2 ∷ 6 ∷ 5 ∷ []) $
           by ! (exits t t-is (ws .0 .0) (all-told (x .now) (a .now) (b .now) t (ws .0 .0) (new-said .0) tells₁ tells₂ (ended .0))
-          (at-last (x .now) (a .now) (b .now) t (ws .0 .0) (ended .1))
+          (buffer-after (x .now) (a .now) (b .now) t (ws .0 .0) (ended .1))
           (same ∙ (length-dest (next₁ (x .now) (a .now)) (b .now) (dest₁ (x .now) (a .now)) ∙
           length-dest fresh (a .now) (x .now))))))))))))))))))))))))))))))))))))))))))
 
