@@ -4,6 +4,8 @@ use mathlib.Core.Bool.{Bool, true, false}
 use mathlib.Core.List.{List, [], _∷_}
 use Prim.Native.Nat.{ℕ}
 use lib.Dec.{eqb}
+use lib.ListN.{length}
+use denote.Ref.{RefT, now}
 use denote.Enum.Declared.{tagOf}
 use types.Run.{OneOf, miss}
 use Rattle.cobs.specs.Words.{if_then_else_}
@@ -13,7 +15,7 @@ use Rattle.enc.specs.declared.stream.Encoder.{Encoder}
 use Rattle.enc.specs.declared.stream.Started.{Started}
 use Rattle.enc.specs.declared.stream.Started.the-variants as start
 use Rattle.enc.proofs.stream.Started.{the-type}
-use Rattle.held.specs.Held.{toldStarted}
+use Rattle.held.specs.Held.{toldStarted, over, pushed}
 
 -- the encoder of an answer, a fresh one for a refusal
 inside : Started → Encoder
@@ -39,16 +41,21 @@ told-refused start.DestBufTooSmall h = refl
 pub start-refused : (room : ℕ) (s : Started) → s ≡ started room → OneOf (1 ∷ []) (tagOf the-type s) → destBufTooSmall ≡ toldStarted (started room)
 start-refused room s p h = told-refused s h ∙ ap toldStarted p
 
--- ---- After a refusal: the buffer has length 0, and every call is a BadState that changes nothing
+-- ---- After a refusal: the slice has length 0, and every call is a BadState that changes nothing
 
-pub refused-bad : isBad fresh 0 ≡ true
-unfolding isBad
-refused-bad = refl
+module _ (x : RefT (List ℕ)) (empty : length (now x) ≡ 0) where
+  pub refused-bad : isBad fresh (length (now x)) ≡ true
+  unfolding isBad
+  refused-bad = rw empty refl
 
-pub refused-push : (piece : List ℕ) → (pushTold fresh piece 0 ≡ badState) × ((pushNext fresh piece 0 ≡ fresh) × (pushDest fresh piece [] ≡ []))
-unfolding isBad pushTold pushNext pushDest
-refused-push piece = (refl, (refl, refl))
+  pub refused-told : (piece : List ℕ) → pushTold fresh piece (length (now x)) ≡ badState
+  unfolding pushTold
+  refused-told piece = rw refused-bad refl
 
-pub refused-finalize : (finishTold fresh 0 ≡ badState) × (finishDest fresh [] ≡ [])
-unfolding isBad finishTold finishDest
-refused-finalize = (refl, refl)
+  pub refused-push : (piece : List ℕ) → pushed (over x) piece ≡ over x
+  unfolding pushNext pushDest
+  refused-push piece = rw (refused-told piece) refl
+
+  pub refused-finalize : (finishTold fresh (length (now x)) ≡ badState) × (finishDest fresh (now x) ≡ now x)
+  unfolding finishTold finishDest
+  refused-finalize = rw refused-bad (refl, refl)
