@@ -2,6 +2,7 @@
 use crate::say;
 use dec::state::DecodeResult;
 use dec::state::DecoderState;
+use dec::state::Stepped;
 use dec::stream::CobsDecoder;
 use dec::stream::PushAnswer;
 use dec::stream::Pushed;
@@ -131,12 +132,7 @@ fn states() {
     feed(decoder(2, false, DecoderState::Grab(1)), &mut e, 0x11);
 }
 
-fn step(s: DecoderState, byte: u8) {
-    state(s);
-    say::text(b" step ");
-    say::byte(byte);
-    say::text(b": ");
-    let stepped = s.step(byte);
+fn given(stepped: Stepped) {
     let result = stepped.result;
     let after = stepped.state;
     match result {
@@ -162,6 +158,23 @@ fn step(s: DecoderState, byte: u8) {
     say::end();
 }
 
+fn step(s: DecoderState, byte: u8) {
+    state(s);
+    say::text(b" step ");
+    say::byte(byte);
+    say::text(b": ");
+    given(s.step(byte));
+}
+
+// The same where the state stands.
+fn fed(s: DecoderState, byte: u8) {
+    state(s);
+    say::text(b" fed ");
+    say::byte(byte);
+    say::text(b": ");
+    given(dec::state::fed(s, byte));
+}
+
 fn alone() {
     step(DecoderState::new(), 0x00);
     step(DecoderState::new(), 0x03);
@@ -173,6 +186,11 @@ fn alone() {
     step(DecoderState::GrabChain(0), 0x02);
     step(DecoderState::GrabChain(0), 0xFF);
     step(DecoderState::GrabChain(1), 0x00);
+    fed(DecoderState::new(), 0x00);
+    fed(DecoderState::new(), 0xFF);
+    fed(DecoderState::Grab(2), 0x11);
+    fed(DecoderState::Grab(1), 0x00);
+    fed(DecoderState::Grab(0), 0x00);
 }
 
 pub(crate) fn run() {

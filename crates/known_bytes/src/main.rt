@@ -4,6 +4,7 @@ mod batches;
 mod decoding;
 mod encoding;
 mod feeding;
+mod holding;
 mod lengths;
 mod records;
 mod say;
@@ -15,6 +16,7 @@ fn main() {
     encoding::run();
     alone::run();
     streaming::run();
+    holding::run();
     decoding::run();
     feeding::run();
     records::run();
