@@ -16,7 +16,7 @@ use prog.Wp.{Heap, Calls, Loops, WpFn, Tables}
 use ghost.Atoms.{Atoms, sem}
 use contract.Monad.{Fun, fact}
 use contract.Running.{givenOf, tables, tablesOf}
-use types.Kit.{Given, ‵, raw, some, later, _⊛_, _$_, _∵_, !, qed, by, move, keep, drop, use1, use2, use3, split, join, pick, rewrite, fsplit, fjoin, feqL, suffices, frame, await, done}
+use types.Kit.{Given, ‵, raw, some, later, _⊛_, _$_, _∵_, !, qed, by, move, keep, drop, use1, use2, use3, split, join, pick, rewrite, fsplit, fjoin, suffices, frame, await, done}
 use types.Run.{look, init, forget, stop, hop, fld, from, load, addr, and-then, no-more, assigns, land, returns, enter, alloc1, alloc0, params1, pass1, pass0, free1, free0}
 use types.Part.{agg, whole, sub, look-in}
 use sound.WpLaws.{FmC, fmOf, WpFn-mono}
@@ -170,7 +170,7 @@ module _ {M : Type 1} (𝓤 : URA M) (H : Heap 𝓤) (A : Atoms 𝓤) (W : Given
           raw (fact 𝓤 (Tells r)) ⊛ raw (fact 𝓤 (IsFresh r)) ⊛ raw (fact 𝓤 (Leaves (ws .0))))) (id⊢ 𝓤 _) $ pick ! (λ ws.
           split ! $ move ! (1 ∷ []) $ split ! $ heard ! (Tells r) (λ tells. split ! $
           heard ! (IsFresh r) (λ is-fresh. heard ! (Leaves (ws .0)) (λ leaves.
-          fsplit ! $ fsplit ! $ move ! (1 ∷ []) $ feqL ! (λ same.
+          fsplit ! $ fsplit ! $ move ! (1 ∷ []) $ drop ! $
           -- the last list at 0, the token and the result at 2: the result lands in _2
           move ! (2 ∷ []) $ split ! $ move ! (1 ∷ []) $ peeks ! pair.the-row (Is pair.the-row) (shows 𝓤 H A pair.the-row) r (w ∷ []) (λ is.
           let fields = struct.owed pair.the-type pair′.the-laws r _ is in
@@ -179,7 +179,7 @@ module _ {M : Type 1} (𝓤 : URA M) (H : Heap 𝓤) (A : Atoms 𝓤) (W : Given
           -- the token at 0, the last list at 2, `Away` at 4: the slice comes home as it was
           split ! $ move ! (0 ∷ 4 ∷ 2 ∷ []) $
           use3 W (later (‵ (MutSlice (named 0) κ u8 .own (under x (x .name) (ws .0)) (slice-at x ∷ [])) ⊛ ‵ (flft κ q)))
-          (comes-home κ q x 𝓤 H A W (named 0) z (ws .0) (x-is .0 .1) same) $ await ! tt $ split ! $
+          (comes-home κ q x 𝓤 H A W (named 0) z (ws .0)) $ await ! tt $ split ! $
           rewrite ! 0 (λ (l : List ℕ). ‵ (MutSlice (named 0) κ u8 .own (under x (x .name) l) (slice-at x ∷ []))) leaves refl $
           -- the slice at 0, its token at 1, _7 to _0 from 6 on: _6 = &mut *_1, _7 = { _6, _2.encoder }, _0 = { _7, _2.answer }
           assigns ! (addr ! (from ! (fld ! refl (hop ! (look-in ! 18 (sub ! 0 refl (whole !))) (stop !))))) (from ! (stop !))
@@ -202,7 +202,7 @@ module _ {M : Type 1} (𝓤 : URA M) (H : Heap 𝓤) (A : Atoms 𝓤) (W : Given
           move ! (20 ∷ 21 ∷ []) $ free1 ! $ move ! (18 ∷ 19 ∷ []) $ free1 ! $ move ! (16 ∷ 17 ∷ []) $ free1 ! $ move ! (14 ∷ 15 ∷ []) $ free1 ! $
           move ! (12 ∷ 13 ∷ []) $ free1 ! $ move ! (10 ∷ 11 ∷ []) $ free1 ! $ move ! (8 ∷ 9 ∷ []) $ free1 ! $ move ! (6 ∷ 7 ∷ []) $ free1 ! $
           free0 ! $
-          keep ! (0 ∷ 1 ∷ []) $ by ! (exits r x-is (fields .0) (fields .1 .0) tells is-fresh))))))))))))))))))
+          keep ! (0 ∷ 1 ∷ []) $ by ! (exits r x-is (fields .0) (fields .1 .0) tells is-fresh)))))))))))))))))
 
   walks : (C : Calls 𝓤 H) (Λ : Loops 𝓤 H) → FmC 𝓤 H (W .laws) C → Triple 𝓤 (C below-code.name) Below
       → Walks 𝓤 H A new.ended left (WpFn 𝓤 H C Λ code.function) (new.clauses 𝓤 H A memory run)

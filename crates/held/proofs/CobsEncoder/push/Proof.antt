@@ -18,7 +18,7 @@ use ghost.Atoms.{Atoms}
 use contract.Monad.{Fun, fact}
 use contract.Running.{givenOf, tables, tablesOf}
 use contract.Lifetimes.{AllOutlive}
-use types.Kit.{Given, ‵, raw, given, some, later, _⊛_, ⋆, _$_, _∵_, !, qed, by, move, keep, drop, use1, use2, use3, split, join, pick, learn, rewrite, fsplit, fsplit3, fjoin, fjoin3, feqL, feqI, suffices, frame, await, done}
+use types.Kit.{Given, ‵, raw, given, some, later, _⊛_, ⋆, _$_, _∵_, !, qed, by, move, keep, drop, use1, use2, use3, split, join, pick, learn, rewrite, fsplit, fsplit3, fjoin, fjoin3, feqI, suffices, frame, await, done}
 use types.Run.{look, init, forget, stop, hop, fld, from, load, addr, of-opd, and-then, no-more, assigns, land, returns, enter, alloc1, alloc0, params1, pass1, pass0, free1, free0}
 use types.Part.{agg, whole, sub, look-in, store-in}
 use types.SemTy.{Body}
@@ -221,7 +221,7 @@ module _ {M : Type 1} (𝓤 : URA M) (H : Heap 𝓤) (A : Atoms 𝓤) (W : Given
           raw (fact 𝓤 (GoesOn r)) ⊛ raw (fact 𝓤 (Leaves (ws .1 .0))))) (id⊢ 𝓤 _) $ pick ! (λ ws.
           split ! $ move ! (1 ∷ []) $ split ! $ heard ! (Tells r) (λ tells. split ! $
           heard ! (GoesOn r) (λ goes-on. heard ! (Leaves (ws .1 .0)) (λ leaves.
-          fsplit ! $ move ! (1 ∷ []) $ fsplit ! $ fsplit ! $ move ! (1 ∷ []) $ feqL ! (λ same.
+          fsplit ! $ move ! (1 ∷ []) $ fsplit ! $ fsplit ! $ move ! (1 ∷ []) $ drop ! $
           -- the last list at 0, the tokens and the result at 3: the result lands in _4
           move ! (3 ∷ []) $ split ! $ move ! (1 ∷ []) $ peeks ! pair.the-row (Is pair.the-row) (shows 𝓤 H A pair.the-row) r (w ∷ []) (λ pair-is.
           let fields = struct.owed pair.the-type pair′.the-laws r _ pair-is in
@@ -230,7 +230,7 @@ module _ {M : Type 1} (𝓤 : URA M) (H : Heap 𝓤) (A : Atoms 𝓤) (W : Given
           -- the call's token at 0, the result at 2, the last list at 3, `Away` at 8: the slice comes home
           move ! (1 ∷ []) $ split ! $ move ! (0 ∷ 8 ∷ 3 ∷ []) $
           use3 W (later (‵ (MutSlice (named 1) κ′ u8 .own (under x (x .name) (ws .1 .0)) (slice-at x ∷ [])) ⊛ ‵ (flft κ′ q′)))
-          (comes-home κ′ q′ x 𝓤 H A W (named 1) z (ws .1 .0) (room is) same) $ await ! tt $ split ! $
+          (comes-home κ′ q′ x 𝓤 H A W (named 1) z (ws .1 .0)) $ await ! tt $ split ! $
           -- the slice at 0, its token at 1, the struct's cell at 9, _7 to _0 from 13 on: (*_1).encoder = _4.next, _0 = _4.answer
           assigns ! (of-opd ! (load ! (from ! (fld ! {d = 8} refl (stop !))) (look-in ! 19 (sub ! 1 {d = 8} refl (whole !)))))
           (from ! (hop ! (look ! 25 refl) (fld ! {τ = inner′.mir} {d = 16} refl (stop !))))
@@ -253,7 +253,7 @@ module _ {M : Type 1} (𝓤 : URA M) (H : Heap 𝓤) (A : Atoms 𝓤) (W : Given
           move ! (25 ∷ 26 ∷ []) $ free1 ! $ move ! (23 ∷ 24 ∷ []) $ free1 ! $ move ! (21 ∷ 22 ∷ []) $ free1 ! $ move ! (19 ∷ 20 ∷ []) $ free1 ! $
           move ! (17 ∷ 18 ∷ []) $ free1 ! $ move ! (15 ∷ 16 ∷ []) $ free1 ! $ move ! (13 ∷ 14 ∷ []) $ free1 ! $ move ! (11 ∷ 12 ∷ []) $ free1 ! $
           free0 ! $
-          keep ! (0 ∷ 1 ∷ 2 ∷ 3 ∷ 4 ∷ 8 ∷ []) $ by ! (exits r (ws .1 .0) tells goes-on leaves (fields .0))))))))))))))))))))))
+          keep ! (0 ∷ 1 ∷ 2 ∷ 3 ∷ 4 ∷ 8 ∷ []) $ by ! (exits r (ws .1 .0) tells goes-on leaves (fields .0)))))))))))))))))))))
 
   walks : (C : Calls 𝓤 H) (Λ : Loops 𝓤 H) → FmC 𝓤 H (W .laws) C → Triple 𝓤 (C below-code.name) Below
       → Walks 𝓤 H A push.ended left (WpFn 𝓤 H C Λ code.function) (push.clauses 𝓤 H A memory run)
