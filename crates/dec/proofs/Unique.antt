@@ -14,6 +14,7 @@ use Rattle.dec.specs.Stream.{new, Outcome, told, outcome, pushOutcome, p
 use Rattle.dec.specs.Calls.{decodedTold}
 use Rattle.dec.specs.declared.state.DecoderState.{DecoderState}
 use Rattle.dec.specs.declared.state.DecoderState.the-variants.{Idle}
+use Rattle.dec.specs.declared.state.DecodeResult.{DecodeResult}
 use Rattle.dec.specs.declared.state.Stepped.{Stepped}
 use Rattle.dec.specs.declared.stream.CobsDecoder.{CobsDecoder}
 use Rattle.dec.specs.declared.stream.PushAnswer.{PushAnswer}
@@ -69,6 +70,14 @@ unique-DecoderState-new r s p q = p ∙ sym q
 pub unique-step : (d : DecoderState) (b : ℕ) (r s : Stepped) → r ≡ stepped d b → s ≡ stepped d b → r ≡ s
 unique-step d b r s p q = p ∙ sym q
 
+-- a result, and the state behind the reference after it
+pub unique-DecoderState-feed : (d : DecoderState) (b : ℕ) (r s : DecodeResult) (k l : DecoderState) → (r ≡ stepped d b .result) × (k ≡ stepped d b .state)
+    → (s ≡ stepped d b .result) × (l ≡ stepped d b .state) → (r ≡ s) × (k ≡ l)
+unique-DecoderState-feed d b r s k l p q = (p .0 ∙ sym (q .0), p .1 ∙ sym (q .1))
+
+pub unique-fed : (d : DecoderState) (b : ℕ) (r s : Stepped) → r ≡ stepped d b → s ≡ stepped d b → r ≡ s
+unique-fed = unique-step
+
 -- ---- the streaming decoder
 
 pub unique-CobsDecoder-new : (r s : CobsDecoder) → r ≡ new → s ≡ new → r ≡ s
@@ -88,9 +97,9 @@ Pushes d piece dest = Meets outcome (pushOutcome d (length dest) piece) (pushDes
 pub unique-push : (d : CobsDecoder) (piece dest : List ℕ) (r s : Pushed) (k l : List ℕ) → Pushes d piece dest r k → Pushes d piece dest s l → (r ≡ s) × (k ≡ l)
 unique-push d piece dest r s k l p q = one outcome outcome-back outcome-undone (pushOutcome d (length dest) piece) (pushDest d piece dest) r s k l p q
 
-pub unique-feed : (d : CobsDecoder) (b : ℕ) (dest : List ℕ) (r s : Pushed) (k l : List ℕ) → Pushes d (b ∷ []) dest r k → Pushes d (b ∷ []) dest s l
+pub unique-CobsDecoder-feed : (d : CobsDecoder) (b : ℕ) (dest : List ℕ) (r s : Pushed) (k l : List ℕ) → Pushes d (b ∷ []) dest r k → Pushes d (b ∷ []) dest s l
     → (r ≡ s) × (k ≡ l)
-unique-feed d b dest r s k l p q = unique-push d (b ∷ []) dest r s k l p q
+unique-CobsDecoder-feed d b dest r s k l p q = unique-push d (b ∷ []) dest r s k l p q
 
 -- ---- the one-shot call
 

@@ -78,6 +78,29 @@ impl DecoderState {
             },
         }
     }
+
+    /// Takes one byte where the state stands: `step`, and the next state written back.
+    pub fn feed(&mut self, data: u8) -> DecodeResult
+        ensures { λ r. ⌜ (r ≡ stepped (now (self .entry)) «data» .result)
+            × (now (self .exit) ≡ stepped (now (self .entry)) «data» .state) ⌝ }
+    {
+        let state = *self;
+        let next = state.step(data);
+        *self = next.state;
+        next.result
+    }
+}
+
+/// `feed` on a copy of the state, for a caller that holds no reference.
+pub fn fed(state: DecoderState, data: u8) -> Stepped
+    ensures { λ r. ⌜ r ≡ stepped state «data» ⌝ }
+{
+    let mut held = state;
+    let result = held.feed(data);
+    Stepped {
+        state: held,
+        result,
+    }
 }
 
 fn gives(state: DecoderState, result: DecodeResult) -> Stepped
