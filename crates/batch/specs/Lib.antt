@@ -2,4 +2,5 @@
 pub mod State
 pub mod Verdict
 pub mod Frame
+-- for the private functions
 pub mod Helpers

@@ -2,4 +2,5 @@
 pub mod State
 pub mod Stream
 pub mod Calls
+-- for the private functions
 pub mod Helpers

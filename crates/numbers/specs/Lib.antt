@@ -1,4 +1,4 @@
--- What a reader must believe of the states as numbers; Helpers is for the private functions alone. Definitions only; their laws
--- are in proofs/.
+-- What a reader must believe of the states as numbers. Definitions only; their laws are in proofs/.
 pub mod Numbers
+-- for the private functions
 pub mod Helpers
