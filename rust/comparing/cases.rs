@@ -1,0 +1,215 @@
+//! The cases.
+use crate::case::*;
+use crate::rule::{encoding, masked, LONGEST};
+
+/// Enough randomness for cases, the same in every run.
+pub struct Random(u64);
+
+impl Random {
+    fn next(&mut self) -> u64 {
+        self.0 ^= self.0 << 13;
+        self.0 ^= self.0 >> 7;
+        self.0 ^= self.0 << 17;
+        self.0 >> 8
+    }
+
+    fn below(&mut self, n: usize) -> usize {
+        (self.next() % n as u64) as usize
+    }
+
+    fn byte(&mut self) -> u8 {
+        self.next() as u8
+    }
+
+    fn of<T: Copy>(&mut self, choices: &[T]) -> T {
+        choices[self.below(choices.len())]
+    }
+}
+
+/// How much is generated.
+#[derive(Clone, Copy)]
+pub struct Amount {
+    pub short: usize,
+    pub every_room: usize,
+    pub edges: usize,
+    pub damaged: usize,
+    pub millions: usize,
+}
+
+pub const FULL: Amount = Amount { short: 6, every_room: 12, edges: 1500, damaged: 12000, millions: 3 };
+pub const QUICK: Amount = Amount { short: 4, every_room: 1, edges: 60, damaged: 600, millions: 1 };
+
+const SENTINELS: [u8; 3] = [0x00, 0x02, 0xAA];
+const FILL: u8 = 0x5A;
+
+/// All strings over an alphabet, up to a length.
+fn strings(alphabet: &[u8], most: usize, mut each: impl FnMut(&[u8])) {
+    for length in 0..=most {
+        for mut number in 0..alphabet.len().pow(length as u32) {
+            let mut string = Vec::with_capacity(length);
+            for _ in 0..length {
+                string.push(alphabet[number % alphabet.len()]);
+                number /= alphabet.len();
+            }
+            each(&string);
+        }
+    }
+}
+
+struct Maker<'a> {
+    kind: Kind,
+    out: &'a mut dyn FnMut(Case),
+}
+
+impl Maker<'_> {
+    fn put(&mut self, call: Call, source: &[u8], room: usize, sentinel: u8, fill: u8) {
+        let source = source.to_vec();
+        (self.out)(Case { kind: self.kind, call, sentinel, fill, room, pieces: Vec::new(), source });
+    }
+
+    /// The length functions.
+    fn lengths(&mut self, n: usize) {
+        for call in [Call::Overhead, Call::Length] {
+            self.put(call, &(n as u64).to_le_bytes(), 0, 0, FILL);
+        }
+    }
+
+    /// Every encoding call, with rooms from `least` below the needed one to one past it.
+    fn encode(&mut self, message: &[u8], least: usize, sentinels: &[u8]) {
+        let need = encoding(message).len();
+        for room in need.saturating_sub(least)..=need + 1 {
+            self.put(Call::Encode, message, room, 0, FILL);
+            self.put(Call::TryEncode, message, room, 0, FILL);
+            for sentinel in sentinels {
+                self.put(Call::Chosen, message, room, *sentinel, FILL);
+            }
+        }
+        for room in (need + 2).saturating_sub(least)..=need + 3 {
+            self.put(Call::Around, message, room, 0, FILL);
+            self.put(Call::TryAround, message, room, 0, FILL);
+        }
+    }
+
+    /// Every decoding call on a source, with rooms from `from` to `to`.
+    fn decode(&mut self, source: &[u8], from: usize, to: usize, sentinels: &[u8]) {
+        for room in from..=to {
+            self.put(Call::Decode, source, room, 0, FILL);
+        }
+        self.put(Call::InPlace, source, source.len(), 0, FILL);
+        self.put(Call::InPlaceReport, source, source.len(), 0, FILL);
+        for sentinel in sentinels {
+            let source = masked(source, *sentinel);
+            for room in (from..=to).chain([source.len(), source.len() + 1]) {
+                // What stood in the destination must not matter: an old code, an old zero, anything.
+                for fill in [FILL, 0x03, 0x00] {
+                    self.put(Call::Unchosen, &source, room, *sentinel, fill);
+                }
+            }
+        }
+    }
+}
+
+/// All messages, and as sources all strings, up to a length.
+fn short(most: usize, make: &mut Maker) {
+    strings(&[0x00, 0x01, 0x02, 0xFE, 0xFF], most, |s| {
+        make.encode(s, usize::MAX, &SENTINELS);
+        make.decode(s, 0, s.len(), &SENTINELS);
+    });
+    // Groups of up to four bytes.
+    strings(&[0x00, 0x01, 0x02, 0x03, 0x04], most, |s| make.decode(s, 0, s.len(), &SENTINELS[1..2]));
+}
+
+/// A random message around the lengths at which full groups end.
+fn edge(random: &mut Random) -> Vec<u8> {
+    let length = random.of(&[1, 250, 252, 506, 760]) + random.below(6);
+    message(random, length)
+}
+
+/// Without zeros, with few, with many, or zeros alone.
+fn message(random: &mut Random, length: usize) -> Vec<u8> {
+    let zeros = random.of(&[0, 0, 1, 60, 256]);
+    (0..length).map(|_| if random.below(256) < zeros { 0 } else { random.byte().max(1) }).collect()
+}
+
+fn edges(amount: Amount, random: &mut Random, make: &mut Maker) {
+    for _ in 0..amount.every_room {
+        let message = edge(random);
+        make.encode(&message, usize::MAX, &[random.byte()]);
+        let sentinel = random.byte();
+        make.decode(&encoding(&message), 0, message.len() + 1, &[sentinel]);
+    }
+    for _ in 0..amount.edges {
+        let message = edge(random);
+        make.encode(&message, 2, &[random.byte()]);
+        let sentinel = random.byte();
+        make.decode(&encoding(&message), message.len().saturating_sub(2), message.len() + 1, &[sentinel]);
+    }
+}
+
+/// A byte changed, lost or added, the end cut off, or twice with or without a zero between.
+fn damage(body: &[u8], random: &mut Random) -> Vec<u8> {
+    let mut s = body.to_vec();
+    let at = random.below(s.len());
+    match random.below(7) {
+        0 => s[at] = random.byte(),
+        1 => s[at] = 0,
+        2 => drop(s.remove(at)),
+        3 => s.insert(at, random.byte()),
+        4 => s.truncate(at),
+        5 => s = [body, body].concat(),
+        _ => s = [body, &[0], body].concat(),
+    }
+    for _ in 0..random.of(&[0, 0, 1, 2]) {
+        s.insert(0, 0);
+    }
+    for _ in 0..random.of(&[0, 0, 1, 2]) {
+        s.push(0);
+    }
+    s
+}
+
+fn damaged(amount: Amount, random: &mut Random, make: &mut Maker) {
+    for i in 0..amount.damaged {
+        let message = if i % 4 == 0 { edge(random) } else { random_short(random) };
+        let source = damage(&encoding(&message), random);
+        let sentinel = random.byte();
+        let most = source.len() + 1;
+        make.decode(&source, if most < 32 { 0 } else { message.len().saturating_sub(1) }, if most < 32 { most } else { message.len() + 1 }, &[sentinel]);
+    }
+}
+
+fn random_short(random: &mut Random) -> Vec<u8> {
+    let length = random.below(20);
+    message(random, length)
+}
+
+fn millions(amount: Amount, random: &mut Random, make: &mut Maker) {
+    for n in (LONGEST - 3..=LONGEST + 3).chain([usize::MAX - 4200000, usize::MAX / 254, usize::MAX - 1, usize::MAX]) {
+        make.lengths(n);
+    }
+    for _ in 0..amount.millions {
+        for length in LONGEST - 1..=LONGEST + 1 {
+            let message = message(random, length);
+            make.encode(&message, 1, &[random.byte()]);
+            let sentinel = random.byte();
+            make.decode(&encoding(&message), length - 1, length, &[sentinel]);
+            make.decode(&damage(&encoding(&message), random), length, length, &[]);
+        }
+    }
+}
+
+/// All of them, in order.
+pub fn all(amount: Amount, out: &mut dyn FnMut(Case)) {
+    let mut random = Random(0x1357_9BDF_2468_ACE1);
+    let mut make = Maker { kind: Kind::Short, out };
+    for n in 0..=2048 {
+        make.lengths(n);
+    }
+    short(amount.short, &mut make);
+    make.kind = Kind::Edge;
+    edges(amount, &mut random, &mut make);
+    make.kind = Kind::Damaged;
+    damaged(amount, &mut random, &mut make);
+    make.kind = Kind::Million;
+    millions(amount, &mut random, &mut make);
+}

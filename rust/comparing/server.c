@@ -1,0 +1,126 @@
+/* Answers cases by the archives' calls, from standard input to standard output; pipe.rs is the other end. Numbers are little-endian.
+     case:    call, sentinel, fill: u8; lengths of the source and of the destination, number of pieces: u32; the pieces' lengths: u32;
+              the source
+     answer:  how many told: u32; each told: number u8, first u64, second u64; the destination's bytes, or the buffer's
+   The destination starts as `fill` in every byte, or, in place, as the source. Bytes around it that a call may not touch are watched. */
+typedef unsigned char u8;
+typedef unsigned int u32;
+typedef unsigned long usize;
+
+u8 laksovuth_max_encoding_overhead(usize, usize *);
+u8 laksovuth_max_encoding_length(usize, usize *);
+u8 laksovuth_encode(const u8 *, usize, u8 *, usize, usize *);
+u8 laksovuth_encode_including_sentinels(const u8 *, usize, u8 *, usize, usize *);
+u8 laksovuth_encode_with_sentinel(const u8 *, usize, u8 *, usize, u8, usize *);
+u8 laksovuth_decode(const u8 *, usize, u8 *, usize, usize *, usize *);
+u8 laksovuth_decode_in_place(u8 *, usize, usize *, usize *);
+u8 laksovuth_decode_with_sentinel(const u8 *, usize, u8 *, usize, u8, usize *);
+
+long read(int, void *, usize);
+long write(int, const void *, usize);
+
+enum { LONGEST = 1 << 22, WATCHED = 16, WATCH = 0xC3, TRESPASS = 255, UNKNOWN = 254 };
+
+/* As pipe.rs numbers them. */
+enum { OVERHEAD, LENGTH, ENCODE, AROUND, CHOSEN, DECODE, IN_PLACE, UNCHOSEN };
+
+static u8 in[1 << 16], out[1 << 16], source[LONGEST], store[LONGEST + 2 * WATCHED];
+static u8 *const dest = store + WATCHED;
+static usize have, at, used;
+
+static int get(void *to, usize n) {
+  u8 *p = to;
+  while (n) {
+    if (at == have) {
+      long k = read(0, in, sizeof in);
+      if (k <= 0) return 0;
+      have = (usize)k;
+      at = 0;
+    }
+    usize k = have - at < n ? have - at : n;
+    for (usize i = 0; i < k; i++) p[i] = in[at + i];
+    p += k;
+    at += k;
+    n -= k;
+  }
+  return 1;
+}
+
+static void flush(void) {
+  for (usize i = 0; i < used;) {
+    long k = write(1, out + i, used - i);
+    if (k <= 0) break;
+    i += (usize)k;
+  }
+  used = 0;
+}
+
+static void put(const void *from, usize n) {
+  const u8 *p = from;
+  while (n) {
+    if (used == sizeof out) flush();
+    usize k = sizeof out - used < n ? sizeof out - used : n;
+    for (usize i = 0; i < k; i++) out[used + i] = p[i];
+    p += k;
+    used += k;
+    n -= k;
+  }
+}
+
+struct head { u8 call, sentinel, fill; u32 length, room, pieces; };
+
+static void prepare(const struct head *h) {
+  for (usize i = 0; i < WATCHED; i++) store[i] = WATCH;
+  for (usize i = 0; i < h->room; i++) dest[i] = h->fill;
+  for (usize i = 0; i < WATCHED; i++) dest[h->room + i] = WATCH;
+  if (h->call == IN_PLACE)
+    for (usize i = 0; i < h->room; i++) dest[i] = source[i];
+}
+
+static int trespassed(usize room) {
+  for (usize i = 0; i < WATCHED; i++)
+    if (store[i] != WATCH || dest[room + i] != WATCH) return 1;
+  return 0;
+}
+
+static u8 one_shot(const struct head *h, usize *first, usize *second) {
+  usize n = h->length, m = h->room;
+  switch (h->call) {
+  case OVERHEAD: return laksovuth_max_encoding_overhead(*(usize *)source, first);
+  case LENGTH: return laksovuth_max_encoding_length(*(usize *)source, first);
+  case ENCODE: return laksovuth_encode(source, n, dest, m, first);
+  case AROUND: return laksovuth_encode_including_sentinels(source, n, dest, m, first);
+  case CHOSEN: return laksovuth_encode_with_sentinel(source, n, dest, m, h->sentinel, first);
+  case DECODE: return laksovuth_decode(source, n, dest, m, first, second);
+  case IN_PLACE: return laksovuth_decode_in_place(dest, m, first, second);
+  case UNCHOSEN: return laksovuth_decode_with_sentinel(source, n, dest, m, h->sentinel, first);
+  }
+  return UNKNOWN;
+}
+
+static void told(u8 number, usize first, usize second) {
+  put(&number, 1);
+  put(&first, 8);
+  put(&second, 8);
+}
+
+/* One case; 0 at the end of the input. */
+static int answer(void) {
+  struct head h;
+  if (!get(&h.call, 1) || !get(&h.sentinel, 1) || !get(&h.fill, 1) || !get(&h.length, 4) || !get(&h.room, 4) || !get(&h.pieces, 4)) return 0;
+  if (h.length > LONGEST || h.room > LONGEST || h.pieces || !get(source, h.length)) return 0;
+  prepare(&h);
+  usize first = 0, second = 0;
+  u8 number = one_shot(&h, &first, &second);
+  u32 count = 1;
+  put(&count, 4);
+  told(trespassed(h.room) ? TRESPASS : number, first, second);
+  put(dest, h.room);
+  return 1;
+}
+
+int main(void) {
+  while (answer()) {}
+  flush();
+  return 0;
+}
