@@ -14,7 +14,7 @@ pub record Same (r s a b c d : ℕ) : Type 0 where
   pub first : a ≡ b
   pub second : c ≡ d
 
-same : {r s a b c d : ℕ} {t : Told} → tell r a c ≡ t → tell s b d ≡ t → Same r s a b c d
+pub same : {r s a b c d : ℕ} {t : Told} → tell r a c ≡ t → tell s b d ≡ t → Same r s a b c d
 same p q =
     let e = p ∙ sym q in
     record { number = ap (λ (t : Told). t .number) e; first = ap (λ (t : Told). t .first) e; second = ap (λ (t : Told). t .second) e }
