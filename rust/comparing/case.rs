@@ -13,7 +13,11 @@ pub enum Call {
     Decode,
     InPlace,
     InPlaceReport,
+    InPlaceChosen,
     Unchosen,
+    EncodePieces,
+    EncodeOpen,
+    DecodePieces,
 }
 
 impl Call {
@@ -29,7 +33,11 @@ impl Call {
             Call::Decode => "decode",
             Call::InPlace => "decode_in_place",
             Call::InPlaceReport => "decode_in_place_report",
+            Call::InPlaceChosen => "decode_in_place_with_sentinel",
             Call::Unchosen => "decode_with_sentinel",
+            Call::EncodePieces => "CobsEncoder, finalized",
+            Call::EncodeOpen => "CobsEncoder, left open",
+            Call::DecodePieces => "CobsDecoder",
         }
     }
 }
@@ -56,7 +64,8 @@ impl Kind {
     }
 }
 
-/// What goes into a call. The destination has `room` bytes, each `fill`; in place the source is the buffer.
+/// What goes into a call. The destination has `room` bytes, each `fill`; in place the source is the buffer. Streaming, the source is
+/// cut into pieces of these lengths.
 #[derive(Clone, Debug)]
 pub struct Case {
     pub kind: Kind,
@@ -69,10 +78,22 @@ pub struct Case {
 }
 
 impl Case {
+    /// The source's pieces.
+    pub fn cut(&self) -> Vec<&[u8]> {
+        let mut rest = &self.source[..];
+        let mut pieces = Vec::with_capacity(self.pieces.len());
+        for n in &self.pieces {
+            let (piece, behind) = rest.split_at(*n);
+            pieces.push(piece);
+            rest = behind;
+        }
+        pieces
+    }
+
     /// The destination before the call.
     pub fn before(&self) -> Vec<u8> {
         match self.call {
-            Call::InPlace | Call::InPlaceReport => self.source.clone(),
+            Call::InPlace | Call::InPlaceReport | Call::InPlaceChosen => self.source.clone(),
             _ => vec![self.fill; self.room],
         }
     }
@@ -91,6 +112,7 @@ pub const INVALID_FRAME: u8 = 2;
 pub const TARGET_BUF_TOO_SMALL: u8 = 3;
 pub const DEST_BUF_TOO_SMALL: u8 = 4;
 pub const TOO_LONG: u8 = 5;
+pub const MORE: u8 = 14;
 /// The Rust panicked. No answer of ours has this number.
 pub const PANICKED: u8 = 200;
 

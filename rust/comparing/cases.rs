@@ -90,6 +90,27 @@ impl Maker<'_> {
         }
     }
 
+    fn pieces(&mut self, call: Call, source: &[u8], room: usize, pieces: &[usize]) {
+        let (source, pieces) = (source.to_vec(), pieces.to_vec());
+        (self.out)(Case { kind: self.kind, call, sentinel: 0, fill: FILL, room, pieces, source });
+    }
+
+    /// The streaming encoder, with rooms from `least` below the needed one to one past it.
+    fn encode_pieces(&mut self, message: &[u8], least: usize, pieces: &[usize]) {
+        let need = encoding(message).len();
+        for room in need.saturating_sub(least)..=need + 1 {
+            self.pieces(Call::EncodePieces, message, room, pieces);
+        }
+        self.pieces(Call::EncodeOpen, message, need, pieces);
+    }
+
+    /// The streaming decoder, with rooms from `from` to `to`.
+    fn decode_pieces(&mut self, source: &[u8], from: usize, to: usize, pieces: &[usize]) {
+        for room in from..=to {
+            self.pieces(Call::DecodePieces, source, room, pieces);
+        }
+    }
+
     /// Every decoding call on a source, with rooms from `from` to `to`.
     fn decode(&mut self, source: &[u8], from: usize, to: usize, sentinels: &[u8]) {
         for room in from..=to {
@@ -99,6 +120,7 @@ impl Maker<'_> {
         self.put(Call::InPlaceReport, source, source.len(), 0, FILL);
         for sentinel in sentinels {
             let source = masked(source, *sentinel);
+            self.put(Call::InPlaceChosen, &source, source.len(), *sentinel, FILL);
             for room in (from..=to).chain([source.len(), source.len() + 1]) {
                 // What stood in the destination must not matter: an old code, an old zero, anything.
                 for fill in [FILL, 0x03, 0x00] {
@@ -109,6 +131,43 @@ impl Maker<'_> {
     }
 }
 
+/// Every cutting of a length into pieces that are not empty; and, of a length up to `empty`, with one empty piece anywhere.
+fn cuttings(length: usize, empty: usize, mut each: impl FnMut(&[usize])) {
+    for cuts in 0..1 << length.saturating_sub(1) {
+        let mut pieces = vec![];
+        for at in 0..length {
+            if at == 0 || cuts >> (at - 1) & 1 == 1 {
+                pieces.push(0);
+            }
+            *pieces.last_mut().unwrap() += 1;
+        }
+        each(&pieces);
+        if length <= empty {
+            for at in 0..=pieces.len() {
+                let mut more = pieces.clone();
+                more.insert(at, 0);
+                each(&more);
+            }
+        }
+    }
+}
+
+/// Random pieces, some of them empty, some that end where a full group ends.
+fn random_pieces(length: usize, random: &mut Random) -> Vec<usize> {
+    let (mut pieces, mut left) = (vec![], length);
+    let most = length / random.of(&[1, 2, 5, 20]) + 1;
+    while 0 < left {
+        let usual = random.below(most) + 1;
+        let piece = random.of(&[0, 1, 254, usual]).min(left);
+        pieces.push(piece);
+        left -= piece;
+    }
+    if random.below(3) == 0 {
+        pieces.push(0);
+    }
+    pieces
+}
+
 /// All messages, and as sources all strings, up to a length.
 fn short(most: usize, make: &mut Maker) {
     strings(&[0x00, 0x01, 0x02, 0xFE, 0xFF], most, |s| {
@@ -117,6 +176,17 @@ fn short(most: usize, make: &mut Maker) {
     });
     // Groups of up to four bytes.
     strings(&[0x00, 0x01, 0x02, 0x03, 0x04], most, |s| make.decode(s, 0, s.len(), &SENTINELS[1..2]));
+}
+
+/// The same, streaming, in every cutting.
+fn short_pieces(most: usize, make: &mut Maker) {
+    strings(&[0x00, 0x01, 0x02, 0xFE, 0xFF], most, |s| {
+        cuttings(s.len(), 4, |pieces| {
+            make.encode_pieces(s, usize::MAX, pieces);
+            make.decode_pieces(s, 0, s.len(), pieces);
+        })
+    });
+    strings(&[0x00, 0x01, 0x02, 0x03, 0x04], most, |s| cuttings(s.len(), 3, |pieces| make.decode_pieces(s, 0, s.len(), pieces)));
 }
 
 /// A random message around the lengths at which full groups end.
@@ -143,6 +213,12 @@ fn edges(amount: Amount, random: &mut Random, make: &mut Maker) {
         make.encode(&message, 2, &[random.byte()]);
         let sentinel = random.byte();
         make.decode(&encoding(&message), message.len().saturating_sub(2), message.len() + 1, &[sentinel]);
+    }
+    for _ in 0..10 * amount.edges {
+        let message = edge(random);
+        make.encode_pieces(&message, 3, &random_pieces(message.len(), random));
+        let source = [&encoding(&message)[..], &[0], &encoding(&edge(random)), &[0]].concat();
+        make.decode_pieces(&source, message.len().saturating_sub(2), message.len() + 1, &random_pieces(source.len(), random));
     }
 }
 
@@ -174,7 +250,9 @@ fn damaged(amount: Amount, random: &mut Random, make: &mut Maker) {
         let source = damage(&encoding(&message), random);
         let sentinel = random.byte();
         let most = source.len() + 1;
-        make.decode(&source, if most < 32 { 0 } else { message.len().saturating_sub(1) }, if most < 32 { most } else { message.len() + 1 }, &[sentinel]);
+        let (from, to) = if most < 32 { (0, most) } else { (message.len().saturating_sub(1), message.len() + 1) };
+        make.decode(&source, from, to, &[sentinel]);
+        make.decode_pieces(&source, from, to, &random_pieces(source.len(), random));
     }
 }
 
@@ -193,7 +271,10 @@ fn millions(amount: Amount, random: &mut Random, make: &mut Maker) {
             make.encode(&message, 1, &[random.byte()]);
             let sentinel = random.byte();
             make.decode(&encoding(&message), length - 1, length, &[sentinel]);
-            make.decode(&damage(&encoding(&message), random), length, length, &[]);
+            let source = damage(&encoding(&message), random);
+            make.decode(&source, length, length, &[]);
+            make.encode_pieces(&message, 1, &random_pieces(length, random));
+            make.decode_pieces(&source, length - 1, length, &random_pieces(source.len(), random));
         }
     }
 }
@@ -206,6 +287,7 @@ pub fn all(amount: Amount, out: &mut dyn FnMut(Case)) {
         make.lengths(n);
     }
     short(amount.short, &mut make);
+    short_pieces(amount.short, &mut make);
     make.kind = Kind::Edge;
     edges(amount, &mut random, &mut make);
     make.kind = Kind::Damaged;

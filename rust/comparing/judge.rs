@@ -12,8 +12,11 @@ pub struct Due {
 }
 
 /// Whether 01 demands that the two be equal.
-fn within(case: &Case) -> bool {
+fn within(case: &Case, real: &Said) -> bool {
     match case.call {
+        Call::InPlaceChosen => case.source.is_empty() || rule::has_body(&case.source, case.sentinel),
+        Call::DecodePieces => real.told.iter().all(|t| t.number != TARGET_BUF_TOO_SMALL),
+        Call::EncodePieces | Call::EncodeOpen if rule::empty_after_full(case) => false,
         Call::Overhead | Call::Length => asked(case) <= rule::LONGEST,
         Call::Decode => true,
         Call::InPlace | Call::InPlaceReport => case.source.is_empty() || rule::has_body(&case.source, 0),
@@ -24,11 +27,11 @@ fn within(case: &Case) -> bool {
 
 /// How many bytes of the destination are in the domain with it. A refusal has no answered bytes.
 fn answered(case: &Case, real: &Said) -> usize {
-    let last = real.told[real.told.len() - 1];
-    match case.call {
-        Call::Overhead | Call::Length | Call::Decode | Call::InPlace | Call::InPlaceReport => real.dest.len(),
-        Call::Unchosen if last.number != 0 => 0,
-        _ => last.first as usize,
+    match (case.call, real.told.last()) {
+        (Call::Unchosen, Some(last)) if last.number != 0 => 0,
+        (Call::Encode | Call::TryEncode | Call::Around | Call::TryAround | Call::Chosen, Some(last)) => last.first as usize,
+        (Call::Unchosen | Call::EncodePieces, Some(last)) => last.first as usize,
+        _ => real.dest.len(),
     }
 }
 
@@ -37,12 +40,15 @@ fn left_behind(case: &Case, real: &Said, due: &Said, answered: usize) -> Option<
     match case.call {
         Call::Unchosen if due.told[0].number != 0 => Some(rows::REFUSED_COPIES),
         Call::Unchosen => Some(rows::LEFT_BEHIND),
-        _ => {
-            let mut with_01 = due.dest.clone();
-            with_01[answered] = 1;
-            (real.dest == with_01).then_some(rows::PAST_THE_LENGTH)
-        }
+        _ => past_the_length(real, due, answered),
     }
+}
+
+/// The Rust has written 01 at the answered length, and nothing else is otherwise.
+fn past_the_length(real: &Said, due: &Said, answered: usize) -> Option<Row> {
+    let mut with_01 = due.dest.clone();
+    *with_01.get_mut(answered)? = 1;
+    (real.dest == with_01).then_some(rows::PAST_THE_LENGTH)
 }
 
 /// An encoding that does not fit.
@@ -60,11 +66,47 @@ fn no_room(case: &Case, real: Told) -> Option<Row> {
     }
 }
 
-fn outside(case: &Case, real: &Said) -> Option<Row> {
+/// Pieces of which one is refused, or an empty one after a full group. Up to there both answer alike.
+fn pieces(case: &Case, real: &Said, due: &Said) -> Option<Row> {
+    if case.room == 0 {
+        return Some(rows::START);
+    }
+    let Some(at) = due.told.iter().position(|t| t.number != 0) else {
+        let (mine, theirs) = (due.told.last()?.first as usize, real.told.last()?.first as usize);
+        return match theirs.checked_sub(mine)? {
+            0 => past_the_length(real, due, mine),
+            1 => rule::empty_after_full(case).then_some(rows::EMPTY_PIECE),
+            _ => None,
+        };
+    };
+    if real.told[..at] != due.told[..at] {
+        return None;
+    }
+    match (due.told[at].number, real.told[at].number) {
+        (TOO_LONG, _) => Some(rows::NO_LIMIT),
+        (DEST_BUF_TOO_SMALL, 0) => Some(rows::LAST_CODE_PUSHED),
+        (DEST_BUF_TOO_SMALL, DEST_BUF_TOO_SMALL) => Some(rows::REFUSED_WRITES),
+        _ => None,
+    }
+}
+
+/// After a TargetBufTooSmall the Rust refuses again, or takes the rest of the frame for a whole one.
+fn after_overfull(real: &Said, due: &Said) -> Option<Row> {
+    let full = due.told.iter().position(|t| t.number == TARGET_BUF_TOO_SMALL)?;
+    if real.told[..=full] != due.told[..=full] {
+        return None;
+    }
+    let again = real.told.get(full + 1).is_some_and(|t| t.number == TARGET_BUF_TOO_SMALL);
+    Some(if again { rows::REFUSES_AGAIN } else { rows::CUT_FRAME })
+}
+
+fn outside(case: &Case, real: &Said, due: &Said) -> Option<Row> {
     match case.call {
+        Call::EncodePieces | Call::EncodeOpen => pieces(case, real, due),
+        Call::DecodePieces => after_overfull(real, due),
         Call::Overhead | Call::Length => Some(rows::LENGTHS),
         Call::Decode => None,
-        Call::InPlace | Call::InPlaceReport => Some(rows::EMPTY_BODY),
+        Call::InPlace | Call::InPlaceReport | Call::InPlaceChosen => Some(rows::EMPTY_BODY),
         Call::Unchosen if case.source.len() < case.room => Some(rows::LONGER),
         Call::Unchosen if case.room < case.source.len() => Some(rows::SHORTER),
         Call::Unchosen => Some(rows::EMPTY_BODY),
@@ -75,7 +117,7 @@ fn outside(case: &Case, real: &Said) -> Option<Row> {
 
 pub fn due(case: &Case) -> Due {
     let real = real::says(case);
-    if within(case) {
+    if within(case, &real) {
         let n = answered(case, &real);
         let dest = rule::over(&real.dest[..n], case.before());
         let said = Said { told: real.told.clone(), dest };
@@ -83,6 +125,6 @@ pub fn due(case: &Case) -> Due {
         return Due { said, within: true, otherwise };
     }
     let said = rule::says(case);
-    let otherwise = (real != said).then(|| outside(case, &real));
+    let otherwise = (real != said).then(|| outside(case, &real, &said));
     Due { said, within: false, otherwise }
 }

@@ -7,6 +7,7 @@ mod pipe;
 mod real;
 mod rows;
 mod rule;
+mod streams;
 mod tally;
 
 use case::Case;

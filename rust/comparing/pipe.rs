@@ -2,6 +2,9 @@
 use crate::case::*;
 use std::io::{Read, Result};
 
+/// Ends what is told.
+const END: u8 = 253;
+
 /// The archives' calls, as server.c numbers them.
 fn number(call: Call) -> u8 {
     match call {
@@ -13,6 +16,10 @@ fn number(call: Call) -> u8 {
         Call::Decode => 5,
         Call::InPlace | Call::InPlaceReport => 6,
         Call::Unchosen => 7,
+        Call::InPlaceChosen => 8,
+        Call::EncodePieces => 9,
+        Call::EncodeOpen => 10,
+        Call::DecodePieces => 11,
     }
 }
 
@@ -33,8 +40,11 @@ fn get<const N: usize>(from: &mut impl Read) -> Result<[u8; N]> {
 
 pub fn take(case: &Case, from: &mut impl Read) -> Result<Said> {
     let mut told = Vec::new();
-    for _ in 0..u32::from_le_bytes(get(from)?) {
+    loop {
         let [number] = get(from)?;
+        if number == END {
+            break;
+        }
         let first = u64::from_le_bytes(get(from)?);
         let second = u64::from_le_bytes(get(from)?);
         told.push(Told { number, first, second });

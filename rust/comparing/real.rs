@@ -1,5 +1,6 @@
 //! What the real crate says to a case.
 use crate::case::*;
+use crate::streams;
 use cobs::DecodeError;
 use std::cell::Cell;
 use std::panic::{catch_unwind, set_hook, AssertUnwindSafe};
@@ -17,7 +18,7 @@ pub fn silence() {
     }));
 }
 
-fn refusal(error: DecodeError) -> Told {
+pub fn refusal(error: DecodeError) -> Told {
     match error {
         DecodeError::EmptyFrame => refused(EMPTY_FRAME),
         DecodeError::InvalidFrame { decoded_bytes } => told(INVALID_FRAME, decoded_bytes, 0),
@@ -25,7 +26,7 @@ fn refusal(error: DecodeError) -> Told {
     }
 }
 
-fn encoded(answer: Result<usize, cobs::DestBufTooSmallError>) -> Told {
+pub fn encoded(answer: Result<usize, cobs::DestBufTooSmallError>) -> Told {
     match answer {
         Ok(length) => done(length, 0),
         Err(_) => refused(DEST_BUF_TOO_SMALL),
@@ -64,7 +65,9 @@ fn one_shot(case: &Case, dest: &mut [u8]) -> Told {
         Call::Decode => report(cobs::decode(source, dest)),
         Call::InPlace => size(cobs::decode_in_place(dest)),
         Call::InPlaceReport => report(cobs::decode_in_place_report(dest)),
+        Call::InPlaceChosen => size(cobs::decode_in_place_with_sentinel(dest, case.sentinel)),
         Call::Unchosen => size(cobs::decode_with_sentinel(source, dest, case.sentinel)),
+        Call::EncodePieces | Call::EncodeOpen | Call::DecodePieces => unreachable!("told in streams.rs"),
     }
 }
 
@@ -72,7 +75,11 @@ fn one_shot(case: &Case, dest: &mut [u8]) -> Told {
 pub fn says(case: &Case) -> Said {
     let mut dest = case.before();
     CALLING.set(true);
-    let told = catch_unwind(AssertUnwindSafe(|| one_shot(case, &mut dest))).unwrap_or(refused(PANICKED));
+    let told = catch_unwind(AssertUnwindSafe(|| match case.call {
+        Call::EncodePieces | Call::EncodeOpen => streams::encode(case, &mut dest),
+        Call::DecodePieces => streams::decode(case, &mut dest, false),
+        _ => vec![one_shot(case, &mut dest)],
+    }));
     CALLING.set(false);
-    Said { told: vec![told], dest }
+    Said { told: told.unwrap_or(vec![refused(PANICKED)]), dest }
 }

@@ -1,25 +1,46 @@
 //! What 01 says to a case where the Rust need not be followed, written from 01's words.
 use crate::case::*;
 use crate::real::asked;
+use crate::streams;
 
 pub const LONGEST: usize = 1_048_576;
 
-/// 01, The code: the longest run of nonzero bytes, at most 254; its length plus 1, and the run.
-pub fn encoding(message: &[u8]) -> Vec<u8> {
+/// 01, The code: the longest run of nonzero bytes, at most 254; its length plus 1, and the run. Also where the last code stands.
+fn groups(message: &[u8]) -> (Vec<u8>, usize) {
     let mut out = Vec::with_capacity(message.len() + message.len() / 254 + 1);
     let mut rest = message;
     loop {
         let run = rest.iter().take(254).take_while(|b| **b != 0).count();
+        let last = out.len();
         out.push(run as u8 + 1);
         out.extend_from_slice(&rest[..run]);
         rest = &rest[run..];
         if rest.is_empty() {
-            return out;
+            return (out, last);
         }
         if run < 254 {
             rest = &rest[1..]; // the zero; go on even if nothing is left
         }
     }
+}
+
+pub fn encoding(message: &[u8]) -> Vec<u8> {
+    groups(message).0
+}
+
+/// A full group ends the message: its code is FF, and none is open behind it.
+fn ends_full(message: &[u8]) -> bool {
+    let (encoding, last) = groups(message);
+    encoding[last] == 0xFF
+}
+
+/// Whether an empty piece follows a full group.
+pub fn empty_after_full(case: &Case) -> bool {
+    let mut at = 0;
+    case.pieces.iter().any(|n| {
+        at += n;
+        *n == 0 && ends_full(&case.source[..at])
+    })
 }
 
 /// The finished encoding of a call, sentinels included.
@@ -94,12 +115,48 @@ fn encode(case: &Case) -> Said {
     Said { told: vec![done(finished.len(), 0)], dest: over(&finished, case.before()) }
 }
 
+/// In place; with a sentinel the whole buffer is XORed first. Only one of the three calls answers the parsed size.
 fn place(case: &Case) -> Said {
-    let (groups, mut answer) = in_place(&case.source);
-    if case.call == Call::InPlace {
+    let buffer = masked(&case.source, if case.call == Call::InPlaceChosen { case.sentinel } else { 0 });
+    let (groups, mut answer) = in_place(&buffer);
+    if case.call != Call::InPlaceReport {
         answer.second = 0;
     }
-    Said { told: vec![answer], dest: over(&groups, case.before()) }
+    Said { told: vec![answer], dest: over(&groups, buffer) }
+}
+
+/// A piece is accepted exactly if all accepted before and it, finished now, fit; a refused one changes nothing. The open code is not
+/// written before the end.
+fn encode_pieces(case: &Case) -> Said {
+    if case.room == 0 {
+        return Said { told: vec![refused(DEST_BUF_TOO_SMALL)], dest: case.before() };
+    }
+    let (mut told, mut accepted) = (vec![done(0, 0)], Vec::new());
+    for piece in case.cut() {
+        let longer = [&accepted, piece].concat();
+        if LONGEST < longer.len() {
+            told.push(refused(TOO_LONG));
+        } else if case.room < encoding(&longer).len() {
+            told.push(refused(DEST_BUF_TOO_SMALL));
+        } else {
+            told.push(done(0, 0));
+            accepted = longer;
+        }
+    }
+    let (mut encoding, last) = groups(&accepted);
+    if case.call == Call::EncodePieces {
+        told.push(done(encoding.len(), 0));
+    } else if encoding[last] != 0xFF {
+        encoding[last] = case.fill;
+    }
+    Said { told, dest: over(&encoding, case.before()) }
+}
+
+/// As the Rust until the first TargetBufTooSmall; then 01's rule.
+fn decode_pieces(case: &Case) -> Said {
+    let mut dest = case.before();
+    let told = streams::decode(case, &mut dest, true);
+    Said { told, dest }
 }
 
 /// n plus n/254 rounded up, or 1 for n = 0; over the longest, TooLong.
@@ -117,7 +174,9 @@ fn length(case: &Case) -> Said {
 pub fn says(case: &Case) -> Said {
     match case.call {
         Call::Overhead | Call::Length => length(case),
-        Call::InPlace | Call::InPlaceReport => place(case),
+        Call::InPlace | Call::InPlaceReport | Call::InPlaceChosen => place(case),
+        Call::EncodePieces | Call::EncodeOpen => encode_pieces(case),
+        Call::DecodePieces => decode_pieces(case),
         Call::Unchosen => unchosen(case),
         Call::Decode => unreachable!("decode equals the Rust on every input"),
         _ => encode(case),
