@@ -40,7 +40,7 @@ pub const FULL: Amount = Amount { short: 6, every_room: 12, edges: 1500, damaged
 pub const QUICK: Amount = Amount { short: 4, every_room: 1, edges: 60, damaged: 600, millions: 1 };
 
 const SENTINELS: [u8; 3] = [0x00, 0x02, 0xAA];
-const FILL: u8 = 0x5A;
+pub const FILL: u8 = 0x5A;
 
 /// All strings over an alphabet, up to a length.
 fn strings(alphabet: &[u8], most: usize, mut each: impl FnMut(&[u8])) {
@@ -121,7 +121,9 @@ impl Maker<'_> {
         for sentinel in sentinels {
             let source = masked(source, *sentinel);
             self.put(Call::InPlaceChosen, &source, source.len(), *sentinel, FILL);
-            for room in (from..=to).chain([source.len(), source.len() + 1]) {
+            let mut rooms: Vec<usize> = (from..=to).chain([source.len(), source.len() + 1]).collect();
+            rooms.dedup();
+            for room in rooms {
                 // What stood in the destination must not matter: an old code, an old zero, anything.
                 for fill in [FILL, 0x03, 0x00] {
                     self.put(Call::Unchosen, &source, room, *sentinel, fill);
@@ -198,6 +200,11 @@ fn edge(random: &mut Random) -> Vec<u8> {
 /// Without zeros, with few, with many, or zeros alone.
 fn message(random: &mut Random, length: usize) -> Vec<u8> {
     let zeros = random.of(&[0, 0, 1, 60, 256]);
+    with_zeros(random, length, zeros)
+}
+
+/// Of 256 bytes so many are zero.
+fn with_zeros(random: &mut Random, length: usize, zeros: usize) -> Vec<u8> {
     (0..length).map(|_| if random.below(256) < zeros { 0 } else { random.byte().max(1) }).collect()
 }
 
@@ -294,4 +301,33 @@ pub fn all(amount: Amount, out: &mut dyn FnMut(Case)) {
     damaged(amount, &mut random, &mut make);
     make.kind = Kind::Million;
     millions(amount, &mut random, &mut make);
+}
+
+/// A few thousand for the stored sample: all shortest ones, random and damaged short ones, and those at which full groups end.
+pub fn sample(out: &mut dyn FnMut(Case)) {
+    let mut random = Random(0x2468_ACE1_1357_9BDF);
+    let mut make = Maker { kind: Kind::Short, out };
+    strings(&[0x00, 0x01, 0x02, 0x03, 0xFF], 3, |s| {
+        make.encode(s, 0, &[0xAA]);
+        make.decode(s, 0, s.len(), &[0x02]);
+    });
+    for _ in 0..200 {
+        let message = random_short(&mut random);
+        make.encode(&message, 0, &[random.byte()]);
+        let source = damage(&encoding(&message), &mut random);
+        let sentinel = random.byte();
+        make.decode(&source, message.len().saturating_sub(1), message.len(), &[sentinel]);
+    }
+    for length in [253, 254, 255, 507, 508, 509, 510] {
+        for zeros in [0, 1] {
+            let message = with_zeros(&mut random, length, zeros);
+            let body = encoding(&message);
+            make.put(Call::Encode, &message, body.len(), 0, FILL);
+            make.put(Call::Around, &message, body.len() + 2, 0, FILL);
+            make.put(Call::Decode, &body, length, 0, FILL);
+            make.put(Call::Decode, &damage(&body, &mut random), length - 1, 0, FILL);
+            make.put(Call::InPlaceReport, &body, body.len(), 0, FILL);
+            make.put(Call::Unchosen, &masked(&body, 0x7E), body.len(), 0x7E, FILL);
+        }
+    }
 }

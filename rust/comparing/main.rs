@@ -1,5 +1,6 @@
 //! Compares the archives' calls with the real crate's.
-//!   compare MODE DIFFERENCES SERVER..     MODE full or quick; the page of differences; the command that runs the server
+//!   compare full|quick DIFFERENCES SERVER..     the page of differences; the command that runs the server
+//!   compare sample OUT                          writes a stored sample of the real crate's answers
 mod case;
 mod cases;
 mod judge;
@@ -7,6 +8,7 @@ mod pipe;
 mod real;
 mod rows;
 mod rule;
+mod sample;
 mod streams;
 mod tally;
 
@@ -52,6 +54,13 @@ fn judged(cases: Receiver<Vec<Case>>, answers: impl std::io::Read) -> tally::Tal
 
 fn main() {
     let words: Vec<String> = std::env::args().skip(1).collect();
+    real::silence();
+    if words[0] == "sample" {
+        let file = std::fs::File::create(&words[1]).expect("the sample's file");
+        let lines = sample::write(std::io::BufWriter::new(file)).expect("the sample is written");
+        println!("{lines} answers of the real crate in {}", words[1]);
+        return;
+    }
     let amount = if words[0] == "quick" { cases::QUICK } else { cases::FULL };
     let page = std::fs::read_to_string(&words[1]).expect("the page of differences");
     let missing = rows::missing(&page);
@@ -59,7 +68,6 @@ fn main() {
         eprintln!("{} does not have, once: {missing:?}", words[1]);
         exit(1);
     }
-    real::silence();
     let mut server = Command::new(&words[2]);
     let mut server = server.args(&words[3..]).stdin(Stdio::piped()).stdout(Stdio::piped()).spawn().expect("the server starts");
     let (to, answers) = (server.stdin.take().unwrap(), server.stdout.take().unwrap());
