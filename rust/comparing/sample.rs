@@ -5,6 +5,7 @@
 use crate::case::*;
 use crate::cases::{self, FILL};
 use crate::judge::due;
+use std::collections::HashSet;
 use std::io::{Result, Write};
 
 fn name(case: &Case) -> Option<String> {
@@ -36,8 +37,8 @@ fn line(case: &Case) -> Option<String> {
 }
 
 pub fn write(mut to: impl Write) -> Result<usize> {
-    let mut lines = Vec::new();
-    cases::sample(&mut |case| lines.extend(line(&case)));
+    let (mut lines, mut seen) = (Vec::new(), HashSet::new());
+    cases::sample(&mut |case| lines.extend(line(&case).filter(|line| seen.insert(line.clone()))));
     for line in &lines {
         writeln!(to, "{line}")?;
     }
