@@ -9,14 +9,14 @@ use lib.ListN.{length}
 use borrow.Author.Tests.{eq-eqb, ne-eqb}
 use Rattle.cobs.specs.Code.{over}
 use Rattle.cobs.specs.Answers.{tell}
-use Rattle.enc.specs.Stream.{fresh, started}
+use Rattle.enc.specs.Stream.{fresh, started, pushTold, pushNext, pushDest}
 use Rattle.enc.specs.declared.stream.Encoder.{Encoder}
 use Rattle.enc.specs.declared.stream.Started.{Started}
 use Rattle.enc.specs.declared.stream.Started.the-variants as start
 use Rattle.dec.specs.declared.stream.CobsDecoder.{CobsDecoder}
 use Rattle.dec.specs.declared.stream.Pushed.{Pushed}
-use Rattle.dec.specs.Stream.{Outcome, told, outcome, pushOutcome, pushDest as decoderDest}
-use Rattle.probe.specs.Numbers.{flag, tag, toCome, encoderNumbers, decoderOf, decoderNumbers, startTold, startNumbers, unlessBad}
+use Rattle.dec.specs.Stream.{Outcome, told, outcome, pushOutcome, pushDest as decodeDest}
+use Rattle.probe.specs.Numbers.{flag, tag, toCome, encoderOf, encoderNumbers, decoderOf, decoderNumbers, startTold, startNumbers, pushNumbers, decoded, decodeNumbers}
 
 -- ---- a state's numbers
 
@@ -53,27 +53,47 @@ module _ (numbers : List ℕ) (room : ℕ) where
       go true t = let z : _≡_ {A = ℕ} 0 1 = cc in absurd (omega arith)
       go false t = let f : e ≡ fresh = cc in (simp (eq-eqb _ _ h, t), simp (eq-eqb _ _ h, t) (r ∙ ap (λ (x : Encoder). over (encoderNumbers x) numbers) f))
 
--- ---- the decoder's push
+-- ---- the pushes
 
-module _ (numbers piece m m′ : List ℕ) (d : CobsDecoder) (r : Pushed) (n a b : ℕ) where
-  pub decoder-bad : d ≡ decoderOf numbers → outcome r ≡ pushOutcome d (length m) piece → m′ ≡ decoderDest d piece m → tell n a b ≡ told (r .answer) → n ≡ 6
-      → (tell 6 a b ≡ pushOutcome (decoderOf numbers) (length m) piece .answer)
-      × ((numbers ≡ numbers) × (m′ ≡ decoderDest (decoderOf numbers) piece m))
-  decoder-bad p q s t z = (
-    ap (λ (x : ℕ). tell x a b) (sym z) ∙ t ∙ ap (λ (o : Outcome). o .answer) (q ∙ ap (λ (x : CobsDecoder). pushOutcome x (length m) piece) p),
-    (refl, s ∙ ap (λ (x : CobsDecoder). decoderDest x piece m) p),
-  )
+-- The way to the encoder that the numbers name.
+module _ (numbers piece d d′ : List ℕ) (e : Encoder) (p : e ≡ encoderOf numbers) (n : ℕ) (q : tell n 0 0 ≡ pushTold e piece (length d)) (r : d′ ≡ pushDest e piece d) where
+  answer : tell n 0 0 ≡ pushTold (encoderOf numbers) piece (length d)
+  answer = q ∙ ap (λ (x : Encoder). pushTold x piece (length d)) p
 
-  pub decoder-took : (k : List ℕ) → d ≡ decoderOf numbers → outcome r ≡ pushOutcome d (length m) piece → m′ ≡ decoderDest d piece m → tell n a b ≡ told (r .answer)
-      → (n ≡ 6 → ⊥) → k ≡ over (decoderNumbers (r .next)) numbers
-      → (tell n a b ≡ pushOutcome (decoderOf numbers) (length m) piece .answer)
-      × ((k ≡ unlessBad (tell n 0 0) (over (decoderNumbers (pushOutcome (decoderOf numbers) (length m) piece .next)) numbers) numbers)
-      × (m′ ≡ decoderDest (decoderOf numbers) piece m))
-  decoder-took k p q s t h v =
-      let o = q ∙ ap (λ (x : CobsDecoder). pushOutcome x (length m) piece) p in (
-        t ∙ ap (λ (x : Outcome). x .answer) o,
-        (
-          simp (ne-eqb _ _ h) (v ∙ ap (λ (x : Outcome). over (decoderNumbers (x .next)) numbers) o),
-          s ∙ ap (λ (x : CobsDecoder). decoderDest x piece m) p,
-        ),
-      )
+  memory : d′ ≡ pushDest (encoderOf numbers) piece d
+  memory = r ∙ ap (λ (x : Encoder). pushDest x piece d) p
+
+  pub push-refused : (n ≡ 0 → ⊥)
+      → (tell n 0 0 ≡ pushTold (encoderOf numbers) piece (length d)) × ((numbers ≡ pushNumbers numbers piece (length d)) × (d′ ≡ pushDest (encoderOf numbers) piece d))
+  unfolding pushNumbers
+  push-refused h = (answer, (simp (← answer, ne-eqb _ _ h), memory))
+
+  pub push-accepted : (next : Encoder) (k : List ℕ) → n ≡ 0 → next ≡ pushNext e piece (length d) → k ≡ over (encoderNumbers next) numbers
+      → (tell 0 0 0 ≡ pushTold (encoderOf numbers) piece (length d)) × ((k ≡ pushNumbers numbers piece (length d)) × (d′ ≡ pushDest (encoderOf numbers) piece d))
+  unfolding pushNumbers
+  push-accepted next k z s t =
+      let a = ap (λ (x : ℕ). tell x 0 0) (sym z) ∙ answer in
+      (a, (simp (← a) (t ∙ ap (λ (x : Encoder). over (encoderNumbers x) numbers) (s ∙ ap (λ (x : Encoder). pushNext x piece (length d)) p)), memory))
+
+-- The same for the decoder.
+module _ (numbers piece d d′ : List ℕ) (e : CobsDecoder) (p : e ≡ decoderOf numbers) (r : Pushed) (q : outcome r ≡ pushOutcome e (length d) piece)
+    (s : d′ ≡ decodeDest e piece d) (n a b : ℕ) (t : tell n a b ≡ told (r .answer)) where
+  whole : outcome r ≡ decoded numbers piece (length d)
+  whole = q ∙ ap (λ (x : CobsDecoder). pushOutcome x (length d) piece) p
+
+  answers : tell n a b ≡ decoded numbers piece (length d) .answer
+  answers = t ∙ ap (λ (o : Outcome). o .answer) whole
+
+  memories : d′ ≡ decodeDest (decoderOf numbers) piece d
+  memories = s ∙ ap (λ (x : CobsDecoder). decodeDest x piece d) p
+
+  pub decode-bad : n ≡ 6
+      → (tell 6 a b ≡ decoded numbers piece (length d) .answer) × ((numbers ≡ decodeNumbers numbers piece (length d)) × (d′ ≡ decodeDest (decoderOf numbers) piece d))
+  unfolding decodeNumbers
+  decode-bad z = let c = ap (λ (x : ℕ). tell x a b) (sym z) ∙ answers in (c, (simp (← c), memories))
+
+  pub decode-took : (k : List ℕ) → (n ≡ 6 → ⊥) → k ≡ over (decoderNumbers (r .next)) numbers
+      → (tell n a b ≡ decoded numbers piece (length d) .answer) × ((k ≡ decodeNumbers numbers piece (length d)) × (d′ ≡ decodeDest (decoderOf numbers) piece d))
+  unfolding decodeNumbers
+  decode-took k h u =
+      (answers, (simp (← answers, ne-eqb _ _ h) (u ∙ ap (λ (o : Outcome). over (decoderNumbers (o .next)) numbers) whole), memories))

@@ -8,11 +8,12 @@ use Rattle.cobs.specs.Words.{if_then_else_, _exceeds_}
 use Rattle.cobs.specs.Code.{over}
 use Rattle.cobs.specs.Answers.{Told, done, destBufTooSmall, badState, ifDone}
 use Rattle.enc.specs.State.{opened}
-use Rattle.enc.specs.Stream.{fresh}
+use Rattle.enc.specs.Stream.{fresh, pushTold, pushNext}
 use Rattle.enc.specs.declared.stream.Encoder.{Encoder}
 use Rattle.dec.specs.declared.state.DecoderState.{DecoderState}
 use Rattle.dec.specs.declared.state.DecoderState.the-variants.{Idle, Grab, GrabChain}
 use Rattle.dec.specs.declared.stream.CobsDecoder.{CobsDecoder}
+use Rattle.dec.specs.Stream.{Outcome, pushOutcome}
 
 -- An array of four numbers, taken by f; any other is x.
 abbrev pub four : {X : Type 0} → (f : ℕ → ℕ → ℕ → ℕ → X) (x : X) → List ℕ → X
@@ -74,16 +75,27 @@ toCome (GrabChain left) = left
 abbrev pub decoderNumbers : CobsDecoder → List ℕ
 decoderNumbers d = d .place ∷ flag (d .skip) ∷ tag (d .state) ∷ toCome (d .state) ∷ []
 
--- ---- what the calls add
+-- ---- the array after a call
 
 -- An encoder cannot start on a buffer of length 0, nor in an array of another length.
 unfoldable pub startTold : (numbers : List ℕ) (room : ℕ) → Told
 startTold numbers room = if not (eqb (length numbers) 4) then badState else if eqb room 0 then destBufTooSmall else done 0 0
 
--- The array after a start.
+-- A fresh encoder's numbers, if it started.
 unfoldable pub startNumbers : (numbers : List ℕ) (room : ℕ) → List ℕ
 startNumbers numbers room = ifDone (startTold numbers room) (over (encoderNumbers fresh) numbers) numbers
 
--- The array after a decoder's push: a BadState leaves it.
-abbrev pub unlessBad : Told → (left numbers : List ℕ) → List ℕ
-unlessBad t left numbers = if eqb (t .number) (badState .number) then numbers else left
+-- The next encoder's numbers, if the piece was accepted.
+unfoldable pub pushNumbers : (numbers piece : List ℕ) (room : ℕ) → List ℕ
+pushNumbers numbers piece room =
+    ifDone (pushTold (encoderOf numbers) piece room) (over (encoderNumbers (pushNext (encoderOf numbers) piece room)) numbers) numbers
+
+-- What the decoder comes to on the piece.
+abbrev pub decoded : (numbers piece : List ℕ) (room : ℕ) → Outcome
+decoded numbers piece room = pushOutcome (decoderOf numbers) room piece
+
+-- The next decoder's numbers; a BadState leaves them.
+unfoldable pub decodeNumbers : (numbers piece : List ℕ) (room : ℕ) → List ℕ
+decodeNumbers numbers piece room =
+    if eqb (decoded numbers piece room .answer .number) (badState .number) then numbers
+    else over (decoderNumbers (decoded numbers piece room .next)) numbers

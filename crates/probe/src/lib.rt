@@ -14,12 +14,12 @@ use told::finished;
 use told::placed;
 ghost use mathlib.Core.Path.{_≡_};
 ghost use lib.ListN.{length};
-ghost use Rattle.cobs.specs.Code.{over, masked};
-ghost use Rattle.cobs.specs.Answers.{tell, ifDone};
+ghost use Rattle.cobs.specs.Code.{masked};
+ghost use Rattle.cobs.specs.Answers.{tell};
 ghost use Rattle.cobs.specs.OneShot.{inPlaceTold, inPlaceDest, sizeAlone};
-ghost use Rattle.enc.specs.Stream.{pushTold, pushNext, pushDest, finishTold, finishDest};
-ghost use Rattle.dec.specs.Stream.{pushOutcome, pushDest as decoderDest};
-ghost use Rattle.probe.specs.Numbers.{encoderOf, encoderNumbers, decoderOf, decoderNumbers, startTold, startNumbers, unlessBad};
+ghost use Rattle.enc.specs.Stream.{pushTold, pushDest, finishTold, finishDest};
+ghost use Rattle.dec.specs.Stream.{pushDest as decodeDest};
+ghost use Rattle.probe.specs.Numbers.{encoderOf, decoderOf, startTold, startNumbers, pushNumbers, decoded, decodeNumbers};
 
 /// An encoder for this buffer, in the array.
 #[no_mangle]
@@ -41,7 +41,7 @@ pub extern "C" fn probe_encoder_start(state: &mut [u64], dest: &[u8]) -> u8
 #[no_mangle]
 pub extern "C" fn probe_encoder_push(state: &mut [u64], dest: &mut [u8], piece: &[u8]) -> u8
     ensures answer { λ r. ⌜ tell r 0 0 ≡ pushTold (encoderOf (now (state .entry))) (now (piece .entry)) (length (now (dest .entry))) ⌝ }
-    ensures next { λ r. ⌜ now (state .exit) ≡ ifDone (tell r 0 0) (over (encoderNumbers (pushNext (encoderOf (now (state .entry))) (now (piece .entry)) (length (now (dest .entry))))) (now (state .entry))) (now (state .entry)) ⌝ }
+    ensures next { λ _. ⌜ now (state .exit) ≡ pushNumbers (now (state .entry)) (now (piece .entry)) (length (now (dest .entry))) ⌝ }
     ensures memory { λ _. ⌜ now (dest .exit) ≡ pushDest (encoderOf (now (state .entry))) (now (piece .entry)) (now (dest .entry)) ⌝ }
 {
     let encoder = encoder_of(state);
@@ -75,9 +75,9 @@ pub extern "C" fn probe_decoder_push(
     size: &mut usize,
     consumed: &mut usize,
 ) -> u8
-    ensures answer { λ r. ⌜ tell r (now (size .exit)) (now (consumed .exit)) ≡ pushOutcome (decoderOf (now (state .entry))) (length (now (dest .entry))) (now (piece .entry)) .answer ⌝ }
-    ensures next { λ r. ⌜ now (state .exit) ≡ unlessBad (tell r 0 0) (over (decoderNumbers (pushOutcome (decoderOf (now (state .entry))) (length (now (dest .entry))) (now (piece .entry)) .next)) (now (state .entry))) (now (state .entry)) ⌝ }
-    ensures memory { λ _. ⌜ now (dest .exit) ≡ decoderDest (decoderOf (now (state .entry))) (now (piece .entry)) (now (dest .entry)) ⌝ }
+    ensures answer { λ r. ⌜ tell r (now (size .exit)) (now (consumed .exit)) ≡ decoded (now (state .entry)) (now (piece .entry)) (length (now (dest .entry))) .answer ⌝ }
+    ensures next { λ _. ⌜ now (state .exit) ≡ decodeNumbers (now (state .entry)) (now (piece .entry)) (length (now (dest .entry))) ⌝ }
+    ensures memory { λ _. ⌜ now (dest .exit) ≡ decodeDest (decoderOf (now (state .entry))) (now (piece .entry)) (now (dest .entry)) ⌝ }
 {
     let decoder = decoder_of(state);
     let pushed = decoder.push(dest, piece);

@@ -1,5 +1,5 @@
 -- `probe::probe_decoder_push` meets its contract. Assumes nothing.
-use Rattle.probe.proofs.Ways.{decoder-bad, decoder-took}
+use Rattle.probe.proofs.Ways.{decode-bad, decode-took}
 use borrow.Author.Needs.{needs}
 use Rattle.probe.proofs.probe_decoder_push.Statement.{statement}
 use Rattle.probe.proofs.probe_decoder_push.Tie as tie
@@ -23,8 +23,8 @@ returns : tie.Need-returns
 returns c =
     let a = c .before .before .before .before .before .before .before .before .before .before .before .before .before .args in
     let pushed = c .before .before .before .before .before .before .push in
-    decoder-bad (a .state .now) (a .piece .now) (a .dest .now) _ _ (pushed .result) _ _ _ (c .before .before .before .before .before .before .before .before .decoder-of .ensures)
-    (pushed .ensures .0) (pushed .ensures .1) (c .before .answered .ensures) (c .if1 .taken)
+    decode-bad (a .state .now) (a .piece .now) (a .dest .now) _ _ (c .before .before .before .before .before .before .before .before .decoder-of .ensures) (pushed .result)
+    (pushed .ensures .0) (pushed .ensures .1) _ _ _ (c .before .answered .ensures) (c .if1 .taken)
 
 put-decoder-requires : tie.Need-put-decoder-requires
 put-decoder-requires c κs = search needs
@@ -39,8 +39,8 @@ returns-2 : tie.Need-returns-2
 returns-2 c =
     let a = c .before .before .before .before .before .before .before .before .before .before .before .before .before .before .before .before .before .before .args in
     let pushed = c .before .before .before .before .before .before .before .before .before .before .before .push in
-    decoder-took (a .state .now) (a .piece .now) (a .dest .now) _ _ (pushed .result) _ _ _ _ (c .before .before .before .before .before .before .before .before .before .before .before .before .before .decoder-of .ensures)
-    (pushed .ensures .0) (pushed .ensures .1) (c .before .before .before .before .before .before .answered .ensures) (c .before .before .before .before .before .if1 .left) (c .before .before .put-decoder .ensures)
+    decode-took (a .state .now) (a .piece .now) (a .dest .now) _ _ (c .before .before .before .before .before .before .before .before .before .before .before .before .before .decoder-of .ensures) (pushed .result)
+    (pushed .ensures .0) (pushed .ensures .1) _ _ _ (c .before .before .before .before .before .before .answered .ensures) _ (c .before .before .before .before .before .if1 .left) (c .before .before .put-decoder .ensures)
 
 pub probe-decoder-push-spec : {M : Type 1} → statement M
 probe-decoder-push-spec =

@@ -1,5 +1,6 @@
 -- `probe::probe_encoder_push` meets its contract. Assumes nothing.
-use borrow.Author.Tests.{ne-eqb}
+use mathlib.Core.Path.{_∙_}
+use Rattle.probe.proofs.Ways.{push-refused, push-accepted}
 use borrow.Author.Needs.{needs}
 use Rattle.probe.proofs.probe_encoder_push.Statement.{statement}
 use Rattle.probe.proofs.probe_encoder_push.Tie as tie
@@ -20,7 +21,11 @@ same-length-2 : tie.Need-same-length-2
 same-length-2 c = search needs
 
 returns : tie.Need-returns
-returns c = (cc, (simp (ne-eqb _ _ (c .if1 .taken)), cc))
+returns c =
+    let a = c .before .before .before .before .before .before .before .before .before .before .before .args in
+    let pushed = c .before .before .before .before .push in
+    push-refused (a .state .now) (a .piece .now) (a .dest .now) _ _ (c .before .before .before .before .before .before .encoder-of .ensures) _
+    (c .before .accepted .ensures ∙ pushed .ensures .0) (pushed .ensures .1 .1) (c .if1 .taken)
 
 put-encoder-requires : tie.Need-put-encoder-requires
 put-encoder-requires c κs = search needs
@@ -32,7 +37,11 @@ same-length-4 : tie.Need-same-length-4
 same-length-4 c = search needs
 
 returns-2 : tie.Need-returns-2
-returns-2 c = (cc, (cc, cc))
+returns-2 c =
+    let a = c .before .before .before .before .before .before .before .before .before .before .before .before .before .before .before .before .args in
+    let pushed = c .before .before .before .before .before .before .before .before .before .push in
+    push-accepted (a .state .now) (a .piece .now) (a .dest .now) _ _ (c .before .before .before .before .before .before .before .before .before .before .before .encoder-of .ensures) _
+    (c .before .before .before .before .before .before .accepted .ensures ∙ pushed .ensures .0) (pushed .ensures .1 .1) _ _ (c .before .before .before .before .before .if1 .left) (pushed .ensures .1 .0) (c .before .before .put-encoder .ensures)
 
 pub probe-encoder-push-spec : {M : Type 1} → statement M
 probe-encoder-push-spec =
