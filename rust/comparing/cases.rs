@@ -1,6 +1,7 @@
 //! The cases.
 use crate::case::*;
 use crate::rule::{encoding, masked, LONGEST};
+use std::ops::RangeInclusive;
 
 /// Enough randomness for cases, the same in every run.
 pub struct Random(u64);
@@ -42,9 +43,13 @@ pub const QUICK: Amount = Amount { short: 4, every_room: 1, edges: 60, damaged: 
 const SENTINELS: [u8; 3] = [0x00, 0x02, 0xAA];
 pub const FILL: u8 = 0x5A;
 
-/// All strings over an alphabet, up to a length.
-fn strings(alphabet: &[u8], most: usize, mut each: impl FnMut(&[u8])) {
-    for length in 0..=most {
+/// All messages are over the first; the second gives groups of up to four bytes.
+const MESSAGES: [u8; 5] = [0x00, 0x01, 0x02, 0xFE, 0xFF];
+const GROUPS: [u8; 5] = [0x00, 0x01, 0x02, 0x03, 0x04];
+
+/// All strings of these lengths over an alphabet.
+fn strings(alphabet: &[u8], lengths: RangeInclusive<usize>, mut each: impl FnMut(&[u8])) {
+    for length in lengths {
         for mut number in 0..alphabet.len().pow(length as u32) {
             let mut string = Vec::with_capacity(length);
             for _ in 0..length {
@@ -172,23 +177,27 @@ fn random_pieces(length: usize, random: &mut Random) -> Vec<usize> {
 
 /// All messages, and as sources all strings, up to a length.
 fn short(most: usize, make: &mut Maker) {
-    strings(&[0x00, 0x01, 0x02, 0xFE, 0xFF], most, |s| {
+    strings(&MESSAGES, 0..=most, |s| {
         make.encode(s, usize::MAX, &SENTINELS);
         make.decode(s, 0, s.len(), &SENTINELS);
     });
-    // Groups of up to four bytes.
-    strings(&[0x00, 0x01, 0x02, 0x03, 0x04], most, |s| make.decode(s, 0, s.len(), &SENTINELS[1..2]));
+    strings(&GROUPS, 0..=most, |s| make.decode(s, 0, s.len(), &SENTINELS[1..2]));
 }
 
-/// The same, streaming, in every cutting.
+/// The same, streaming, in every cutting; and one byte longer, with the room that is needed.
 fn short_pieces(most: usize, make: &mut Maker) {
-    strings(&[0x00, 0x01, 0x02, 0xFE, 0xFF], most, |s| {
+    strings(&MESSAGES, 0..=most, |s| {
         cuttings(s.len(), 4, |pieces| {
             make.encode_pieces(s, usize::MAX, pieces);
             make.decode_pieces(s, 0, s.len(), pieces);
         })
     });
-    strings(&[0x00, 0x01, 0x02, 0x03, 0x04], most, |s| cuttings(s.len(), 3, |pieces| make.decode_pieces(s, 0, s.len(), pieces)));
+    strings(&GROUPS, 0..=most, |s| cuttings(s.len(), 3, |pieces| make.decode_pieces(s, 0, s.len(), pieces)));
+    strings(&MESSAGES, most + 1..=most + 1, |s| {
+        let need = encoding(s).len();
+        cuttings(s.len(), 0, |pieces| make.pieces(Call::EncodePieces, s, need, pieces));
+    });
+    strings(&GROUPS, most + 1..=most + 1, |s| cuttings(s.len(), 0, |pieces| make.pieces(Call::DecodePieces, s, s.len(), pieces)));
 }
 
 /// A random message around the lengths at which full groups end.
@@ -307,7 +316,7 @@ pub fn all(amount: Amount, out: &mut dyn FnMut(Case)) {
 pub fn sample(out: &mut dyn FnMut(Case)) {
     let mut random = Random(0x2468_ACE1_1357_9BDF);
     let mut make = Maker { kind: Kind::Short, out };
-    strings(&[0x00, 0x01, 0x02, 0x03, 0xFF], 3, |s| {
+    strings(&[0x00, 0x01, 0x02, 0x03, 0xFF], 0..=3, |s| {
         make.encode(s, 0, &[0xAA]);
         make.decode(s, 0, s.len(), &[0x02]);
     });
