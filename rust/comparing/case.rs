@@ -18,6 +18,7 @@ pub enum Call {
     EncodePieces,
     EncodeOpen,
     DecodePieces,
+    Step,
 }
 
 impl Call {
@@ -38,6 +39,7 @@ impl Call {
             Call::EncodePieces => "CobsEncoder, finalized",
             Call::EncodeOpen => "CobsEncoder, left open",
             Call::DecodePieces => "CobsDecoder",
+            Call::Step => "DecoderState",
         }
     }
 }

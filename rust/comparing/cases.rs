@@ -79,6 +79,17 @@ impl Maker<'_> {
         }
     }
 
+    /// Every state of the decoder and every byte.
+    fn steps(&mut self) {
+        for byte in 0..=255 {
+            self.put(Call::Step, &[0, 0, byte], 0, 0, FILL);
+            for left in 0..=255 {
+                self.put(Call::Step, &[1, left, byte], 0, 0, FILL);
+                self.put(Call::Step, &[2, left, byte], 0, 0, FILL);
+            }
+        }
+    }
+
     /// Every encoding call, with rooms from `least` below the needed one to one past it.
     fn encode(&mut self, message: &[u8], least: usize, sentinels: &[u8]) {
         let need = encoding(message).len();
@@ -302,6 +313,7 @@ pub fn all(amount: Amount, out: &mut dyn FnMut(Case)) {
     for n in 0..=2048 {
         make.lengths(n);
     }
+    make.steps();
     short(amount.short, &mut make);
     short_pieces(amount.short, &mut make);
     make.kind = Kind::Edge;

@@ -20,6 +20,7 @@ fn number(call: Call) -> u8 {
         Call::EncodePieces => 9,
         Call::EncodeOpen => 10,
         Call::DecodePieces => 11,
+        Call::Step => 12,
     }
 }
 

@@ -67,7 +67,7 @@ fn one_shot(case: &Case, dest: &mut [u8]) -> Told {
         Call::InPlaceReport => report(cobs::decode_in_place_report(dest)),
         Call::InPlaceChosen => size(cobs::decode_in_place_with_sentinel(dest, case.sentinel)),
         Call::Unchosen => size(cobs::decode_with_sentinel(source, dest, case.sentinel)),
-        Call::EncodePieces | Call::EncodeOpen | Call::DecodePieces => unreachable!("told in streams.rs"),
+        Call::EncodePieces | Call::EncodeOpen | Call::DecodePieces | Call::Step => unreachable!("told in streams.rs"),
     }
 }
 
@@ -78,6 +78,7 @@ pub fn says(case: &Case) -> Said {
     let told = catch_unwind(AssertUnwindSafe(|| match case.call {
         Call::EncodePieces | Call::EncodeOpen => streams::encode(case, &mut dest),
         Call::DecodePieces => streams::decode(case, &mut dest, false),
+        Call::Step => streams::step(case),
         _ => vec![one_shot(case, &mut dest)],
     }));
     CALLING.set(false);

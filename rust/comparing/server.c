@@ -19,6 +19,7 @@ u8 probe_decode_in_place_with_sentinel(u8 *, usize, u8, usize *);
 u8 probe_encoder_start(usize *, usize, const u8 *, usize);
 u8 probe_encoder_push(usize *, usize, u8 *, usize, const u8 *, usize);
 u8 probe_encoder_finalize(const usize *, usize, u8 *, usize, usize *);
+u8 probe_decoder_step(usize *, u8 *, u8, u8 *);
 u8 probe_decoder_push(usize *, usize, u8 *, usize, const u8 *, usize, usize *, usize *);
 
 long read(int, void *, usize);
@@ -27,7 +28,7 @@ long write(int, const void *, usize);
 enum { LONGEST = 1 << 22, MOST_PIECES = 1 << 12, WATCHED = 16, WATCH = 0xC3, TRESPASS = 255, UNKNOWN = 254, END = 253 };
 
 /* As pipe.rs numbers them. */
-enum { OVERHEAD, LENGTH, ENCODE, AROUND, CHOSEN, DECODE, IN_PLACE, UNCHOSEN, IN_PLACE_CHOSEN, ENCODE_PIECES, ENCODE_OPEN, DECODE_PIECES };
+enum { OVERHEAD, LENGTH, ENCODE, AROUND, CHOSEN, DECODE, IN_PLACE, UNCHOSEN, IN_PLACE_CHOSEN, ENCODE_PIECES, ENCODE_OPEN, DECODE_PIECES, STEP };
 /* 01's numbers of the answers after which the rest of a piece is pushed again. */
 enum { FRAME = 0, INVALID_FRAME = 2, TARGET_BUF_TOO_SMALL = 3 };
 
@@ -140,6 +141,14 @@ static void decode_pieces(const struct head *h) {
   }
 }
 
+/* The source is a state's number, its bytes left, and the byte. */
+static void step(void) {
+  usize state = source[0];
+  u8 left = source[1], given = 0, number = probe_decoder_step(&state, &left, source[2], &given);
+  told(number, given, 0);
+  told((u8)state, left, 0);
+}
+
 /* One case; 0 at the end of the input. */
 static int answer(void) {
   struct head h;
@@ -150,6 +159,8 @@ static int answer(void) {
     encode_pieces(&h);
   else if (h.call == DECODE_PIECES)
     decode_pieces(&h);
+  else if (h.call == STEP)
+    step();
   else {
     usize first = 0, second = 0;
     u8 number = one_shot(&h, &first, &second);

@@ -1,7 +1,7 @@
-//! The real crate's streaming encoder and decoder, over a case's pieces.
+//! The real crate's streaming encoder and decoder, over a case's pieces, and its decoder's state alone.
 use crate::case::*;
 use crate::real::{encoded, refusal};
-use cobs::{CobsDecoder, CobsEncoder};
+use cobs::{CobsDecoder, CobsEncoder, DecodeResult, DecoderState};
 
 /// The start, every piece, also after a refusal, and the end unless the encoding is left open.
 pub fn encode(case: &Case, dest: &mut [u8]) -> Vec<Told> {
@@ -14,6 +14,30 @@ pub fn encode(case: &Case, dest: &mut [u8]) -> Vec<Told> {
         told.push(done(encoder.finalize(), 0));
     }
     told
+}
+
+/// One byte to a state: what it gives, in the order of the declaration, and the state after it. The source is the state's number, its
+/// bytes left, and the byte.
+pub fn step(case: &Case) -> Vec<Told> {
+    let (left, byte) = (case.source[1], case.source[2]);
+    let mut state = match case.source[0] {
+        0 => DecoderState::Idle,
+        1 => DecoderState::Grab(left),
+        _ => DecoderState::GrabChain(left),
+    };
+    let gave = match state.feed(byte) {
+        Ok(DecodeResult::NoData) => told(0, 0, 0),
+        Ok(DecodeResult::DataStart) => told(1, 0, 0),
+        Ok(DecodeResult::DataComplete) => told(2, 0, 0),
+        Ok(DecodeResult::DataContinue(b)) => told(3, b as usize, 0),
+        Err(error) => Told { number: 4, ..refusal(error) },
+    };
+    let after = match state {
+        DecoderState::Idle => told(0, 0, 0),
+        DecoderState::Grab(left) => told(1, left as usize, 0),
+        DecoderState::GrabChain(left) => told(2, left as usize, 0),
+    };
+    vec![gave, after]
 }
 
 /// A decoder, and another one fed byte by byte: the first does not say how many bytes a refusal has used.

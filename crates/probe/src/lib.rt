@@ -8,9 +8,13 @@ use numbers::decoder_of;
 use numbers::encoder_of;
 use numbers::put_decoder;
 use numbers::put_encoder;
+use numbers::state_from;
+use numbers::tag;
+use numbers::to_come;
 use told::accepted;
 use told::answered;
 use told::finished;
+use told::gave;
 use told::placed;
 ghost use mathlib.Core.Path.{_≡_};
 ghost use lib.ListN.{length};
@@ -18,8 +22,9 @@ ghost use Rattle.cobs.specs.Code.{masked};
 ghost use Rattle.cobs.specs.Answers.{tell};
 ghost use Rattle.cobs.specs.OneShot.{inPlaceTold, inPlaceDest, sizeAlone};
 ghost use Rattle.enc.specs.Stream.{pushTold, pushDest, finishTold, finishDest};
+ghost use Rattle.dec.specs.State.{stepped};
 ghost use Rattle.dec.specs.Stream.{pushDest as decodeDest};
-ghost use Rattle.probe.specs.Numbers.{encoderOf, decoderOf, startTold, startNumbers, pushNumbers, decoded, decodeNumbers};
+ghost use Rattle.probe.specs.Numbers.{encoderOf, decoderOf, stateFrom, tag, toCome, gaveTold, startTold, startNumbers, pushNumbers, decoded, decodeNumbers};
 
 /// An encoder for this buffer, in the array.
 #[no_mangle]
@@ -89,6 +94,22 @@ pub extern "C" fn probe_decoder_push(
     let next = pushed.next;
     put_decoder(next, state);
     number
+}
+
+/// One byte to the decoder's state alone; the state as its number and the bytes left.
+#[no_mangle]
+pub extern "C" fn probe_decoder_step(state: &mut u64, left: &mut u8, byte: u8, given: &mut u8) -> u8
+    ensures answer { λ r. ⌜ tell r (now (given .exit)) 0 ≡ gaveTold (stepped (stateFrom (now (state .entry)) (now (left .entry))) byte .result) ⌝ }
+    ensures next { λ _. ⌜ now (state .exit) ≡ tag (stepped (stateFrom (now (state .entry)) (now (left .entry))) byte .state) ⌝ }
+    ensures rest { λ _. ⌜ now (left .exit) ≡ toCome (stepped (stateFrom (now (state .entry)) (now (left .entry))) byte .state) ⌝ }
+{
+    let before = state_from(*state, *left);
+    let stepped = before.step(byte);
+    let after = stepped.state;
+    let result = stepped.result;
+    *state = tag(after);
+    *left = to_come(after);
+    gave(result, given)
 }
 
 /// The buffer XORed with the sentinel, then decoded in place.

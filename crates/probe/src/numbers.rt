@@ -57,7 +57,7 @@ fn no_decoder() -> CobsDecoder
     }
 }
 
-fn state_from(tag: u64, left: u8) -> DecoderState
+pub(crate) fn state_from(tag: u64, left: u8) -> DecoderState
     ensures { λ r. ⌜ r ≡ stateFrom tag left ⌝ }
 {
     if tag == 0 {
@@ -103,7 +103,7 @@ fn flag(b: bool) -> u64
     if b { 1 } else { 0 }
 }
 
-fn tag(state: DecoderState) -> u64
+pub(crate) fn tag(state: DecoderState) -> u64
     ensures { λ r. ⌜ r ≡ tag state ⌝ }
 {
     match state {
@@ -113,7 +113,7 @@ fn tag(state: DecoderState) -> u64
     }
 }
 
-fn to_come(state: DecoderState) -> u8
+pub(crate) fn to_come(state: DecoderState) -> u8
     ensures { λ r. ⌜ r ≡ toCome state ⌝ }
 {
     match state {

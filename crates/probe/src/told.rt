@@ -1,4 +1,5 @@
 //! Each answer as its number, with its values behind the out-parameters.
+use dec::state::DecodeResult;
 use dec::stream::PushAnswer;
 use enc::stream::Accepted;
 use enc::stream::Finished;
@@ -8,6 +9,7 @@ ghost use Rattle.cobs.specs.Answers.{tell};
 ghost use Rattle.enc.specs.Stream.{told as acceptedTold, toldFinished};
 ghost use Rattle.dec.specs.Stream.{told as pushTold};
 ghost use Rattle.place.specs.Calls.{placeTold};
+ghost use Rattle.probe.specs.Numbers.{gaveTold};
 
 pub(crate) fn accepted(found: Accepted) -> u8
     ensures { λ r. ⌜ tell r 0 0 ≡ acceptedTold found ⌝ }
@@ -60,6 +62,22 @@ pub(crate) fn answered(found: PushAnswer, size: &mut usize, consumed: &mut usize
             3
         }
         PushAnswer::BadState => 6,
+    }
+}
+
+pub(crate) fn gave(found: DecodeResult, given: &mut u8) -> u8
+    ensures { λ r. ⌜ tell r (now (given .exit)) 0 ≡ gaveTold found ⌝ }
+{
+    *given = 0;
+    match found {
+        DecodeResult::NoData => 0,
+        DecodeResult::DataStart => 1,
+        DecodeResult::DataComplete => 2,
+        DecodeResult::DataContinue(b) => {
+            *given = b;
+            3
+        }
+        DecodeResult::InvalidFrame => 4,
     }
 }
 
