@@ -1,31 +1,7 @@
-//! The cases.
+//! The cases: which inputs go to which calls, with which rooms.
 use crate::case::*;
+use crate::inputs::*;
 use crate::rule::{encoding, masked, LONGEST};
-use std::ops::RangeInclusive;
-
-/// Enough randomness for cases, the same in every run.
-pub struct Random(u64);
-
-impl Random {
-    fn next(&mut self) -> u64 {
-        self.0 ^= self.0 << 13;
-        self.0 ^= self.0 >> 7;
-        self.0 ^= self.0 << 17;
-        self.0 >> 8
-    }
-
-    fn below(&mut self, n: usize) -> usize {
-        (self.next() % n as u64) as usize
-    }
-
-    fn byte(&mut self) -> u8 {
-        self.next() as u8
-    }
-
-    fn of<T: Copy>(&mut self, choices: &[T]) -> T {
-        choices[self.below(choices.len())]
-    }
-}
 
 /// How much is generated.
 #[derive(Clone, Copy)]
@@ -46,20 +22,6 @@ pub const FILL: u8 = 0x5A;
 /// All messages are over the first; the second gives groups of up to four bytes.
 const MESSAGES: [u8; 5] = [0x00, 0x01, 0x02, 0xFE, 0xFF];
 const GROUPS: [u8; 5] = [0x00, 0x01, 0x02, 0x03, 0x04];
-
-/// All strings of these lengths over an alphabet.
-fn strings(alphabet: &[u8], lengths: RangeInclusive<usize>, mut each: impl FnMut(&[u8])) {
-    for length in lengths {
-        for mut number in 0..alphabet.len().pow(length as u32) {
-            let mut string = Vec::with_capacity(length);
-            for _ in 0..length {
-                string.push(alphabet[number % alphabet.len()]);
-                number /= alphabet.len();
-            }
-            each(&string);
-        }
-    }
-}
 
 struct Maker<'a> {
     kind: Kind,
@@ -149,43 +111,6 @@ impl Maker<'_> {
     }
 }
 
-/// Every cutting of a length into pieces that are not empty; and, of a length up to `empty`, with one empty piece anywhere.
-fn cuttings(length: usize, empty: usize, mut each: impl FnMut(&[usize])) {
-    for cuts in 0..1 << length.saturating_sub(1) {
-        let mut pieces = vec![];
-        for at in 0..length {
-            if at == 0 || cuts >> (at - 1) & 1 == 1 {
-                pieces.push(0);
-            }
-            *pieces.last_mut().unwrap() += 1;
-        }
-        each(&pieces);
-        if length <= empty {
-            for at in 0..=pieces.len() {
-                let mut more = pieces.clone();
-                more.insert(at, 0);
-                each(&more);
-            }
-        }
-    }
-}
-
-/// Random pieces, some of them empty, some that end where a full group ends.
-fn random_pieces(length: usize, random: &mut Random) -> Vec<usize> {
-    let (mut pieces, mut left) = (vec![], length);
-    let most = length / random.of(&[1, 2, 5, 20]) + 1;
-    while 0 < left {
-        let usual = random.below(most) + 1;
-        let piece = random.of(&[0, 1, 254, usual]).min(left);
-        pieces.push(piece);
-        left -= piece;
-    }
-    if random.below(3) == 0 {
-        pieces.push(0);
-    }
-    pieces
-}
-
 /// All messages, and as sources all strings, up to a length.
 fn short(most: usize, make: &mut Maker) {
     strings(&MESSAGES, 0..=most, |s| {
@@ -211,23 +136,6 @@ fn short_pieces(most: usize, make: &mut Maker) {
     strings(&GROUPS, most + 1..=most + 1, |s| cuttings(s.len(), 0, |pieces| make.pieces(Call::DecodePieces, s, s.len(), pieces)));
 }
 
-/// A random message around the lengths at which full groups end.
-fn edge(random: &mut Random) -> Vec<u8> {
-    let length = random.of(&[1, 250, 252, 506, 760]) + random.below(6);
-    message(random, length)
-}
-
-/// Without zeros, with few, with many, or zeros alone.
-fn message(random: &mut Random, length: usize) -> Vec<u8> {
-    let zeros = random.of(&[0, 0, 1, 60, 256]);
-    with_zeros(random, length, zeros)
-}
-
-/// Of 256 bytes so many are zero.
-fn with_zeros(random: &mut Random, length: usize, zeros: usize) -> Vec<u8> {
-    (0..length).map(|_| if random.below(256) < zeros { 0 } else { random.byte().max(1) }).collect()
-}
-
 fn edges(amount: Amount, random: &mut Random, make: &mut Maker) {
     for _ in 0..amount.every_room {
         let message = edge(random);
@@ -249,28 +157,6 @@ fn edges(amount: Amount, random: &mut Random, make: &mut Maker) {
     }
 }
 
-/// A byte changed, lost or added, the end cut off, or twice with or without a zero between.
-fn damage(body: &[u8], random: &mut Random) -> Vec<u8> {
-    let mut s = body.to_vec();
-    let at = random.below(s.len());
-    match random.below(7) {
-        0 => s[at] = random.byte(),
-        1 => s[at] = 0,
-        2 => drop(s.remove(at)),
-        3 => s.insert(at, random.byte()),
-        4 => s.truncate(at),
-        5 => s = [body, body].concat(),
-        _ => s = [body, &[0], body].concat(),
-    }
-    for _ in 0..random.of(&[0, 0, 1, 2]) {
-        s.insert(0, 0);
-    }
-    for _ in 0..random.of(&[0, 0, 1, 2]) {
-        s.push(0);
-    }
-    s
-}
-
 fn damaged(amount: Amount, random: &mut Random, make: &mut Maker) {
     for i in 0..amount.damaged {
         let message = if i % 4 == 0 { edge(random) } else { random_short(random) };
@@ -281,11 +167,6 @@ fn damaged(amount: Amount, random: &mut Random, make: &mut Maker) {
         make.decode(&source, from, to, &[sentinel]);
         make.decode_pieces(&source, from, to, &random_pieces(source.len(), random));
     }
-}
-
-fn random_short(random: &mut Random) -> Vec<u8> {
-    let length = random.below(20);
-    message(random, length)
 }
 
 fn millions(amount: Amount, random: &mut Random, make: &mut Maker) {

@@ -117,14 +117,19 @@ fn outside(case: &Case, real: &Said, due: &Said) -> Option<Row> {
 
 pub fn due(case: &Case) -> Due {
     let real = real::says(case);
+    let rule = rule::says(case);
     if within(case, &real) {
         let n = answered(case, &real);
         let dest = rule::over(&real.dest[..n], case.before());
         let said = Said { told: real.told.clone(), dest };
-        let otherwise = (real != said).then(|| left_behind(case, &real, &said, n));
+        let otherwise = if rule.is_some_and(|rule| rule != said) {
+            Some(None) // the Rust is not as 01 says
+        } else {
+            (real != said).then(|| left_behind(case, &real, &said, n))
+        };
         return Due { said, within: true, otherwise };
     }
-    let said = rule::says(case);
+    let said = rule.expect("a rule outside the domain");
     let otherwise = (real != said).then(|| outside(case, &real, &said));
     Due { said, within: false, otherwise }
 }

@@ -3,6 +3,7 @@
 //!   compare sample OUT                          writes a stored sample of the real crate's answers
 mod case;
 mod cases;
+mod inputs;
 mod judge;
 mod pipe;
 mod real;
