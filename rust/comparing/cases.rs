@@ -3,21 +3,24 @@ use crate::case::*;
 use crate::inputs::*;
 use crate::rule::{encoding, masked, LONGEST};
 
-/// How much is generated.
+/// How much is generated: strings up to a length, messages of these lengths into every room, and so many random ones.
 #[derive(Clone, Copy)]
 pub struct Amount {
     pub short: usize,
-    pub every_room: usize,
+    pub every_room: &'static [usize],
     pub edges: usize,
     pub damaged: usize,
     pub millions: usize,
 }
 
-pub const FULL: Amount = Amount { short: 6, every_room: 12, edges: 1500, damaged: 12000, millions: 3 };
-pub const QUICK: Amount = Amount { short: 4, every_room: 1, edges: 60, damaged: 600, millions: 1 };
+pub const FULL: Amount = Amount { short: 6, every_room: &GROUP_ENDS, edges: 1500, damaged: 12000, millions: 3 };
+pub const QUICK: Amount = Amount { short: 4, every_room: &[254], edges: 60, damaged: 600, millions: 1 };
 
 const SENTINELS: [u8; 3] = [0x00, 0x02, 0xAA];
 pub const FILL: u8 = 0x5A;
+
+/// The lengths at which full groups end, and their neighbours.
+const GROUP_ENDS: [usize; 7] = [253, 254, 255, 507, 508, 509, 510];
 
 /// All messages are over the first; the second gives groups of up to four bytes.
 const MESSAGES: [u8; 5] = [0x00, 0x01, 0x02, 0xFE, 0xFF];
@@ -136,12 +139,15 @@ fn short_pieces(most: usize, make: &mut Maker) {
     strings(&GROUPS, most + 1..=most + 1, |s| cuttings(s.len(), 0, |pieces| make.pieces(Call::DecodePieces, s, s.len(), pieces)));
 }
 
+/// Messages around the lengths at which full groups end: a few into every room, many into the rooms around the needed one.
 fn edges(amount: Amount, random: &mut Random, make: &mut Maker) {
-    for _ in 0..amount.every_room {
-        let message = edge(random);
-        make.encode(&message, usize::MAX, &[random.byte()]);
-        let sentinel = random.byte();
-        make.decode(&encoding(&message), 0, message.len() + 1, &[sentinel]);
+    for length in amount.every_room {
+        for zeros in [0, 1] {
+            let message = with_zeros(random, *length, zeros);
+            make.encode(&message, usize::MAX, &[random.byte()]);
+            let sentinel = random.byte();
+            make.decode(&encoding(&message), 0, length + 1, &[sentinel]);
+        }
     }
     for _ in 0..amount.edges {
         let message = edge(random);
@@ -157,6 +163,7 @@ fn edges(amount: Amount, random: &mut Random, make: &mut Maker) {
     }
 }
 
+/// Damaged, truncated and doubled encodings.
 fn damaged(amount: Amount, random: &mut Random, make: &mut Maker) {
     for i in 0..amount.damaged {
         let message = if i % 4 == 0 { edge(random) } else { random_short(random) };
@@ -169,6 +176,7 @@ fn damaged(amount: Amount, random: &mut Random, make: &mut Maker) {
     }
 }
 
+/// Around the longest message.
 fn millions(amount: Amount, random: &mut Random, make: &mut Maker) {
     for n in (LONGEST - 3..=LONGEST + 3).chain([usize::MAX - 4200000, usize::MAX / 254, usize::MAX - 1, usize::MAX]) {
         make.lengths(n);
@@ -220,7 +228,7 @@ pub fn sample(out: &mut dyn FnMut(Case)) {
         let sentinel = random.byte();
         make.decode(&source, message.len().saturating_sub(1), message.len(), &[sentinel]);
     }
-    for length in [253, 254, 255, 507, 508, 509, 510] {
+    for length in GROUP_ENDS {
         for zeros in [0, 1] {
             let message = with_zeros(&mut random, length, zeros);
             let body = encoding(&message);
