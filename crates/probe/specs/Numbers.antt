@@ -26,6 +26,7 @@ four f x (a ∷ b ∷ c ∷ []) = x
 four f x (a ∷ b ∷ c ∷ d ∷ []) = f a b c d
 four f x (a ∷ b ∷ c ∷ d ∷ e ∷ more) = x
 
+-- A yes or no as a number.
 abbrev pub flag : Bool → ℕ
 flag true = 1
 flag false = 0
@@ -36,14 +37,17 @@ flag false = 0
 abbrev pub noEncoder : Encoder
 noEncoder = record { state = opened 0 0; full = false; count = 0 }
 
+-- The encoder of these numbers. A code over a byte, or a flag that is neither 0 nor 1, names none.
 unfoldable pub encoderFrom : (place code full count : ℕ) → Encoder
 encoderFrom place code full count =
     if (code exceeds 255) || (full exceeds 1) then noEncoder
     else record { state = opened place code; full = eqb full 1; count = count }
 
+-- The encoder that an array names.
 abbrev pub encoderOf : List ℕ → Encoder
 encoderOf numbers = four encoderFrom noEncoder numbers
 
+-- Its numbers.
 abbrev pub encoderNumbers : Encoder → List ℕ
 encoderNumbers e = e .state .place ∷ e .state .code ∷ flag (e .full) ∷ e .count ∷ []
 
@@ -53,27 +57,33 @@ encoderNumbers e = e .state .place ∷ e .state .code ∷ flag (e .full) ∷ e .
 abbrev pub noDecoder : CobsDecoder
 noDecoder = record { place = 1; skip = false; state = Idle }
 
+-- The state of these numbers; any number but 0 and 1 is GrabChain.
 abbrev pub stateFrom : (tag left : ℕ) → DecoderState
 stateFrom tag left = if eqb tag 0 then Idle else if eqb tag 1 then Grab left else GrabChain left
 
+-- The decoder of these numbers. A flag over 1, a state over 2, or more left than a byte holds names none.
 unfoldable pub decoderFrom : (place skip tag left : ℕ) → CobsDecoder
 decoderFrom place skip tag left =
     if (skip exceeds 1) || (tag exceeds 2) || (left exceeds 255) then noDecoder
     else record { place = place; skip = eqb skip 1; state = stateFrom tag left }
 
+-- The decoder that an array names.
 abbrev pub decoderOf : List ℕ → CobsDecoder
 decoderOf numbers = four decoderFrom noDecoder numbers
 
+-- A state's number.
 abbrev pub tag : DecoderState → ℕ
 tag Idle = 0
 tag (Grab left) = 1
 tag (GrabChain left) = 2
 
+-- The bytes left in its group.
 abbrev pub toCome : DecoderState → ℕ
 toCome Idle = 0
 toCome (Grab left) = left
 toCome (GrabChain left) = left
 
+-- A decoder's numbers.
 abbrev pub decoderNumbers : CobsDecoder → List ℕ
 decoderNumbers d = d .place ∷ flag (d .skip) ∷ tag (d .state) ∷ toCome (d .state) ∷ []
 
