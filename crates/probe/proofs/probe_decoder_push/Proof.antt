@@ -39,8 +39,11 @@ returns-2 : tie.Need-returns-2
 returns-2 c =
     let a = c .before .before .before .before .before .before .before .before .before .before .before .before .before .before .before .before .before .before .args in
     let pushed = c .before .before .before .before .before .before .before .before .before .before .before .push in
-    decode-took (a .state .now) (a .piece .now) (a .dest .now) _ _ (c .before .before .before .before .before .before .before .before .before .before .before .before .before .decoder-of .ensures) (pushed .result)
-    (pushed .ensures .0) (pushed .ensures .1) _ _ _ (c .before .before .before .before .before .before .answered .ensures) _ (c .before .before .before .before .before .if1 .left) (c .before .before .put-decoder .ensures)
+    decode-took (a .state .now) (a .piece .now) (a .dest .now) _ _
+    (c .before .before .before .before .before .before .before .before .before .before .before .before .before .decoder-of .ensures) (pushed .result)
+    (pushed .ensures .0) (pushed .ensures .1) _ _ _
+    (c .before .before .before .before .before .before .answered .ensures) _
+    (c .before .before .before .before .before .if1 .left) (c .before .before .put-decoder .ensures)
 
 pub probe-decoder-push-spec : {M : Type 1} → statement M
 probe-decoder-push-spec =

@@ -40,8 +40,10 @@ returns-2 : tie.Need-returns-2
 returns-2 c =
     let a = c .before .before .before .before .before .before .before .before .before .before .before .before .before .before .before .before .args in
     let pushed = c .before .before .before .before .before .before .before .before .before .push in
-    push-accepted (a .state .now) (a .piece .now) (a .dest .now) _ _ (c .before .before .before .before .before .before .before .before .before .before .before .encoder-of .ensures) _
-    (c .before .before .before .before .before .before .accepted .ensures ∙ pushed .ensures .0) (pushed .ensures .1 .1) _ _ (c .before .before .before .before .before .if1 .left) (pushed .ensures .1 .0) (c .before .before .put-encoder .ensures)
+    push-accepted (a .state .now) (a .piece .now) (a .dest .now) _ _
+    (c .before .before .before .before .before .before .before .before .before .before .before .encoder-of .ensures) _
+    (c .before .before .before .before .before .before .accepted .ensures ∙ pushed .ensures .0) (pushed .ensures .1 .1) _ _
+    (c .before .before .before .before .before .if1 .left) (pushed .ensures .1 .0) (c .before .before .put-encoder .ensures)
 
 pub probe-encoder-push-spec : {M : Type 1} → statement M
 probe-encoder-push-spec =

@@ -26,7 +26,9 @@ same-length : tie.Need-same-length
 same-length c = search needs
 
 returns-3 : tie.Need-returns-3
-returns-3 c = start-ready _ _ _ _ _ (c .before .before .before .before .before .before .before .before .if1 .left) (c .before .before .before .before .before .before .before .start .ensures) (c .before .before .before .before .before .encoder .given .1) (c .before .before .put-encoder .ensures)
+returns-3 c =
+    start-ready _ _ _ _ _ (c .before .before .before .before .before .before .before .before .if1 .left) (c .before .before .before .before .before .before .before .start .ensures)
+    (c .before .before .before .before .before .encoder .given .1) (c .before .before .put-encoder .ensures)
 
 pub probe-encoder-start-spec : {M : Type 1} → statement M
 probe-encoder-start-spec =

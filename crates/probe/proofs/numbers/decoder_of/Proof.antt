@@ -28,7 +28,9 @@ decoder-from-requires : tie.Need-decoder-from-requires
 decoder-from-requires c κs = search needs
 
 returns-2 : tie.Need-returns-2
-returns-2 c = c .decoder-from .ensures ∙ four-read decoderFrom noDecoder (c .before .before .before .before .before .before .before .args .numbers .now) (c .before .before .before .before .before .if1 .left)
+returns-2 c =
+    let numbers = c .before .before .before .before .before .before .before .args .numbers .now in
+    c .decoder-from .ensures ∙ four-read decoderFrom noDecoder numbers (c .before .before .before .before .before .if1 .left)
 
 pub decoder-of-spec : {M : Type 1} → statement M
 decoder-of-spec =

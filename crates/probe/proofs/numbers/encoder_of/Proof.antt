@@ -28,7 +28,9 @@ encoder-from-requires : tie.Need-encoder-from-requires
 encoder-from-requires c κs = search needs
 
 returns-2 : tie.Need-returns-2
-returns-2 c = c .encoder-from .ensures ∙ four-read encoderFrom noEncoder (c .before .before .before .before .before .before .before .args .numbers .now) (c .before .before .before .before .before .if1 .left)
+returns-2 c =
+    let numbers = c .before .before .before .before .before .before .before .args .numbers .now in
+    c .encoder-from .ensures ∙ four-read encoderFrom noEncoder numbers (c .before .before .before .before .before .if1 .left)
 
 pub encoder-of-spec : {M : Type 1} → statement M
 encoder-of-spec =
