@@ -8,7 +8,7 @@ use std::collections::BTreeMap;
 pub struct Tally {
     compared: BTreeMap<(Call, Kind), u64>,
     outside: u64,
-    rows: BTreeMap<Row, u64>,
+    rows: BTreeMap<(Row, Call), u64>,
     differ: u64,
     smallest: Option<(usize, String)>,
 }
@@ -31,7 +31,7 @@ impl Tally {
             match due.otherwise {
                 None => return,
                 Some(Some(row)) => {
-                    *self.rows.entry(row).or_default() += 1;
+                    *self.rows.entry((row, case.call)).or_default() += 1;
                     return;
                 }
                 Some(None) => (),
@@ -68,8 +68,8 @@ impl Tally {
             println!("{:>12}", Kind::ALL.into_iter().map(of).sum::<u64>());
         }
         println!("\nthe Rust does otherwise, as docs/DIFFERENCES.md lists, and ours as 01 says:");
-        for (row, n) in &self.rows {
-            println!("{n:>12}  {row}");
+        for ((row, call), n) in &self.rows {
+            println!("{n:>12}  {:<32}{row}", call.name());
         }
         let all: u64 = self.compared.values().sum();
         println!("\n{} inside 01's domain of equality, {} outside it", all - self.outside, self.outside);
