@@ -1,25 +1,15 @@
 -- Two results that meet a call's promise are equal: the number, the values behind the out-parameters, and the buffer.
 -- Assumes nothing.
-use mathlib.Core.Path.{_≡_, sym, ap, _∙_}
+use mathlib.Core.Path.{_≡_, sym, _∙_}
 use mathlib.Core.List.{List}
 use Prim.Native.Nat.{ℕ}
 use lib.ListN.{length}
-use Rattle.cobs.specs.Answers.{Told, tell}
+use Rattle.cobs.specs.Answers.{tell}
+use Rattle.cobs.proofs.Told.{Same, same}
 use Rattle.cobs.specs.Lengths.{overheadTold, lengthTold}
 use Rattle.record.specs.Frame.{frameTold, frameDest}
 use Rattle.capi.specs.Stream.{openTold, openState, receiveTold, receiveConsumed, receiveState, receiveBuffer, receiveTable, stateTold, stateTotal}
 use Rattle.cobs.specs.OneShot.{plain, zerosAround, chosen, encodeTold, encodeDest, decodeTold, decodeDest, inPlaceTold, inPlaceDest, withSentinelTold, withSentinelDest}
-
--- What is told fixes the number and both values.
-pub record Same (r s a b c d : ℕ) : Type 0 where
-  pub number : r ≡ s
-  pub first : a ≡ b
-  pub second : c ≡ d
-
-same : {r s a b c d : ℕ} {t : Told} → tell r a c ≡ t → tell s b d ≡ t → Same r s a b c d
-same p q =
-    let e = p ∙ sym q in
-    record { number = ap (λ (t : Told). t .number) e; first = ap (λ (t : Told). t .first) e; second = ap (λ (t : Told). t .second) e }
 
 pub unique-laksovuth-max-encoding-overhead : (n : ℕ) (r s a b : ℕ) → tell r a 0 ≡ overheadTold n → tell s b 0 ≡ overheadTold n → Same r s a b 0 0
 unique-laksovuth-max-encoding-overhead n r s a b p q = same p q

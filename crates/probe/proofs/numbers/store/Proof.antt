@@ -1,0 +1,24 @@
+-- `probe::numbers::store` meets its contract. Assumes nothing.
+use mathlib.Core.Path.{sym}
+use lib.Seq.{set-out}
+use borrow.Author.Needs.{needs}
+use Rattle.probe.proofs.numbers.store.Statement.{statement}
+use Rattle.probe.proofs.numbers.store.Tie as tie
+
+mul-numbers : tie.Need-mul-numbers
+mul-numbers c = search needs
+
+slice-write-numbers : tie.Need-slice-write-numbers
+slice-write-numbers c = search needs
+
+same-length : tie.Need-same-length
+same-length c = search needs
+
+returns : tie.Need-returns
+returns c = search needs
+
+returns-2 : tie.Need-returns-2
+returns-2 c = sym (set-out (c .before .args .numbers .now) (c .before .args .at) (c .before .args .number) (c .if1 .left))
+
+pub store-spec : {M : Type 1} → statement M
+store-spec = tie.close (tie.spec mul-numbers slice-write-numbers same-length returns returns-2)

@@ -1,0 +1,2 @@
+-- States as numbers, and what is told of them.
+pub mod Numbers
