@@ -1,5 +1,5 @@
 //! A stored sample of the real crate's answers, one case a line:
-//!   CALL ROOM SOURCE = NUMBER FIRST SECOND DESTINATION
+//!   CALL ROOM SOURCE = NUMBER FIRST SECOND DESTINATION, with a sentinel after the call's name where it takes one
 //! The destination starts as ROOM bytes 5A; in place the source is the buffer. Bytes in hexadecimal, - for none. Only cases inside 01's
 //! domain of equality: answer and bytes are the Rust's, and bytes that the domain leaves out are 5A as before.
 use crate::case::*;
@@ -13,10 +13,10 @@ fn name(case: &Case) -> Option<String> {
         Call::Encode => "encode".into(),
         Call::TryEncode => "try_encode".into(),
         Call::Around => "around".into(),
-        Call::Chosen => format!("sentinel:{:02x}", case.sentinel),
+        Call::Chosen => format!("sentinel {:02x}", case.sentinel),
         Call::Decode => "decode".into(),
         Call::InPlaceReport => "in_place".into(),
-        Call::Unchosen => format!("unsentinel:{:02x}", case.sentinel),
+        Call::Unchosen => format!("unsentinel {:02x}", case.sentinel),
         _ => return None,
     })
 }

@@ -1,0 +1,52 @@
+-- `rust_answers::cases::prepare` stays within the destination. Assumes nothing.
+use mathlib.Core.Path.{_≡_}
+use Prim.Native.Nat.{_-_, _≤_}
+use lib.ListN.{length}
+use borrow.Author.Needs.{needs}
+use Rattle.rust_answers.proofs.cases.prepare.Statement.{statement}
+use Rattle.rust_answers.proofs.cases.prepare.Tie as tie
+
+abbrev Inv-loop : tie.InvT-loop
+Inv-loop kind source dest₀ room i₀ dest i = (i ≤ room) × (length dest ≡ length dest₀)
+
+abbrev μ-loop : tie.MeasureT-loop
+μ-loop kind source dest₀ room i₀ dest i = room - i
+
+loop-holds : tie.Need-loop-holds Inv-loop μ-loop
+loop-holds c = search needs
+
+before-requires : tie.Need-before-requires Inv-loop μ-loop
+before-requires c κs = search needs
+
+slice-write-dest : tie.Need-slice-write-dest Inv-loop μ-loop
+slice-write-dest c = search needs
+
+add-i : tie.Need-add-i Inv-loop μ-loop
+add-i c = search needs
+
+loop-less : tie.Need-loop-less Inv-loop μ-loop
+loop-less c = search needs
+
+loop-again : tie.Need-loop-again Inv-loop μ-loop
+loop-again c = search needs
+
+same-length : tie.Need-same-length Inv-loop μ-loop
+same-length c = search needs
+
+returns : tie.Need-returns Inv-loop μ-loop
+returns c = search needs
+
+pub prepare-spec : {M : Type 1} → statement M
+prepare-spec =
+    tie.close
+    (tie.spec
+    Inv-loop
+    μ-loop
+    loop-holds
+    before-requires
+    slice-write-dest
+    add-i
+    loop-less
+    loop-again
+    same-length
+    returns)
