@@ -1,14 +1,22 @@
 //! EncoderState alone: what a byte asks of the output, and the state after it.
+use crate::read::Case;
+use crate::read::NEITHER;
+use crate::read::OF;
 use crate::say;
+use crate::words;
 use enc::state::EncoderState;
 use enc::state::PushResult;
 use enc::state::StateFinished;
 
-fn shown(s: EncoderState) {
-    say::text(b"place ");
-    say::number(s.place);
-    say::text(b" code ");
-    say::number(s.code as usize);
+pub(crate) fn shown(s: EncoderState) {
+    say::named(b"place ", s.place);
+    say::named(b" code ", s.code as usize);
+}
+
+fn modify(name: &[u8], place: usize, code: u8) {
+    say::named(name, place);
+    say::text(b" ");
+    say::byte(code);
 }
 
 fn asked(result: PushResult) {
@@ -18,67 +26,84 @@ fn asked(result: PushResult) {
             say::byte(b);
         }
         PushResult::ModifyFromStartAndSkip { place, code } => {
-            say::text(b"ModifyFromStartAndSkip ");
-            say::number(place);
-            say::text(b" ");
-            say::byte(code);
+            modify(b"ModifyFromStartAndSkip ", place, code);
         }
         PushResult::ModifyFromStartAndPushAndSkip { place, code, byte } => {
-            say::text(b"ModifyFromStartAndPushAndSkip ");
-            say::number(place);
-            say::text(b" ");
-            say::byte(code);
+            modify(b"ModifyFromStartAndPushAndSkip ", place, code);
             say::text(b" ");
             say::byte(byte);
         }
         PushResult::BadState => {
-            say::text(b"BadState");
+            say::answer(words::BAD_STATE);
         }
     }
 }
 
-fn push(s: EncoderState, b: u8) {
-    shown(s);
-    say::text(b" push ");
-    say::byte(b);
-    say::text(b": ");
-    let pushed = s.push(b);
+fn new(case: Case) -> bool {
+    if !case.has(0, NEITHER) {
+        return false;
+    }
+    shown(EncoderState::new());
+    true
+}
+
+// The state of the line's first two numbers, of which the second is below 256.
+pub(crate) fn state(case: Case) -> EncoderState {
+    let place = case.numbers[0];
+    let code = case.numbers[1];
+    EncoderState {
+        place,
+        code: (code % 256) as u8,
+    }
+}
+
+fn push(case: Case, m: &[u8]) -> bool {
+    if !case.has(2, OF) {
+        return false;
+    }
+    if 255 < case.numbers[1] {
+        return false;
+    }
+    if m.len() != 1 {
+        return false;
+    }
+    let pushed = state(case).push(m[0]);
     let result = pushed.result;
+    let next = pushed.next;
     asked(result);
     say::text(b", ");
-    shown(pushed.next);
-    say::end();
+    shown(next);
+    true
 }
 
-fn finish(s: EncoderState) {
-    shown(s);
-    say::text(b" finalize: ");
-    let found = s.finalize();
+fn finish(case: Case) -> bool {
+    if !case.has(2, NEITHER) {
+        return false;
+    }
+    if 255 < case.numbers[1] {
+        return false;
+    }
+    let found = state(case).finalize();
     match found {
         StateFinished::Modify { place, code } => {
-            say::number(place);
-            say::text(b" ");
-            say::byte(code);
+            modify(b"", place, code);
         }
         StateFinished::BadState => {
-            say::text(b"BadState");
+            say::answer(words::BAD_STATE);
         }
     }
-    say::end();
+    true
 }
 
-fn at(place: usize, code: u8) -> EncoderState {
-    EncoderState { place, code }
-}
-
-pub(crate) fn run() {
-    push(EncoderState::new(), 0x11);
-    push(at(0, 2), 0x00);
-    push(at(7, EncoderState::RUN_LIMIT), 0x22);
-    push(at(7, 0), 0x22);
-    push(at(7, 255), 0x22);
-    push(at(18_446_744_073_709_551_360, 1), 0x00);
-    push(at(18_446_744_073_709_551_361, 1), 0x00);
-    finish(at(7, 2));
-    finish(at(7, 255));
+/// `EncoderState::new`, `EncoderState::push PLACE CODE of BYTE`, `EncoderState::finalize PLACE CODE`.
+pub(crate) fn run(name: &[u8], case: Case, m: &[u8]) -> bool {
+    match words::which(
+        name,
+        b"EncoderState::new EncoderState::push EncoderState::finalize",
+    ) {
+        0 => new(case),
+        1 => push(case, m),
+        2 => finish(case),
+        _ => false,
+    }
 }

@@ -1,5 +1,11 @@
-//! The decoder in pieces: each line has the decoder and the piece; the answer; the decoder and the buffer after it.
+//! The decoder in pieces, and its state alone: it and its buffer stay from line to line.
+use crate::held::Held;
+use crate::held::Ran;
+use crate::read::Case;
+use crate::read::NEITHER;
+use crate::read::OF;
 use crate::say;
+use crate::words;
 use dec::state::DecodeResult;
 use dec::state::DecoderState;
 use dec::stream::CobsDecoder;
@@ -12,20 +18,17 @@ fn state(s: DecoderState) {
             say::text(b"Idle");
         }
         DecoderState::Grab(n) => {
-            say::text(b"Grab ");
-            say::number(n as usize);
+            say::named(b"Grab ", n as usize);
         }
         DecoderState::GrabChain(n) => {
-            say::text(b"GrabChain ");
-            say::number(n as usize);
+            say::named(b"GrabChain ", n as usize);
         }
     }
 }
 
 fn shown(d: CobsDecoder) {
     let s = d.state;
-    say::text(b"place ");
-    say::number(d.place);
+    say::named(b"place ", d.place);
     if d.skip {
         say::text(b" skip");
     }
@@ -33,113 +36,18 @@ fn shown(d: CobsDecoder) {
     state(s);
 }
 
-fn counted(words: &[u8], first: usize, and: &[u8], second: usize) {
-    say::text(words);
-    say::number(first);
-    say::text(and);
-    say::number(second);
-}
-
-fn answered(pushed: Pushed, dest: &[u8]) -> CobsDecoder {
-    let answer = pushed.answer;
-    let next = pushed.next;
-    match answer {
-        PushAnswer::More => {
-            say::text(b"More");
-        }
-        PushAnswer::Frame { size, parsed } => {
-            counted(b"frame ", size, b", parsed ", parsed);
-        }
-        PushAnswer::InvalidFrame { decoded, consumed } => {
-            counted(b"InvalidFrame ", decoded, b", consumed ", consumed);
-        }
-        PushAnswer::TargetBufTooSmall { consumed } => {
-            say::text(b"TargetBufTooSmall, consumed ");
-            say::number(consumed);
-        }
-        PushAnswer::BadState => {
-            say::text(b"BadState");
-        }
-    }
-    say::text(b", ");
-    shown(next);
-    say::text(b"; holds");
-    say::bytes(dest);
-    say::end();
-    next
-}
-
-fn push(d: CobsDecoder, dest: &mut [u8], piece: &[u8]) -> CobsDecoder {
-    shown(d);
-    say::text(b" push");
-    say::bytes(piece);
-    say::text(b": ");
-    let pushed = d.push(dest, piece);
-    answered(pushed, dest)
-}
-
-fn feed(d: CobsDecoder, dest: &mut [u8], byte: u8) -> CobsDecoder {
-    shown(d);
-    say::text(b" feed ");
-    say::byte(byte);
-    say::text(b": ");
-    let pushed = d.feed(dest, byte);
-    answered(pushed, dest)
-}
-
-fn decoder(place: usize, skip: bool, state: DecoderState) -> CobsDecoder {
-    CobsDecoder { place, skip, state }
-}
-
-// 01's example into two bytes: the overfull frame, then the rest.
-fn overfull() {
-    let mut d = [0x55; 2];
-    let a = push(
-        CobsDecoder::new(),
-        &mut d,
-        b"\x02\x11\x02\x22\x00\x02\x33\x00",
-    );
-    push(a, &mut d, b"\x00\x02\x33\x00");
-}
-
-// One frame in several cuttings; an early zero, after which the next byte starts fresh.
-fn cuttings() {
-    let mut d = [0x55; 4];
-    let a = push(CobsDecoder::new(), &mut d, b"\x03\x11\x22\x02\x33\x00");
-    let b = push(a, &mut d, b"\x03");
-    let c = push(b, &mut d, b"");
-    let e = push(c, &mut d, b"\x44\x22\x02");
-    push(e, &mut d, b"\x33\x00\x02");
-    let f = push(CobsDecoder::new(), &mut d, b"\x00\x03\x11\x00\x02\x22\x00");
-    let g = feed(f, &mut d, 0x02);
-    let h = feed(g, &mut d, 0x22);
-    feed(h, &mut d, 0x00);
-}
-
-// States that no call reaches, and states that are none.
-fn states() {
-    let mut d = [0x55; 255];
-    let mut p = [7u8; 256];
-    p[255] = 0;
-    push(decoder(0, false, DecoderState::Grab(255)), &mut d, &p);
-    push(decoder(0, false, DecoderState::GrabChain(7)), &mut d, &p);
-    let mut e = [0x55; 2];
-    push(decoder(3, false, DecoderState::Grab(1)), &mut e, b"\x00");
-    push(decoder(1, false, DecoderState::Idle), &mut e, b"\x00");
-    push(decoder(0, true, DecoderState::Grab(1)), &mut e, b"\x00");
-    feed(decoder(1, true, DecoderState::Idle), &mut e, 0x00);
-    feed(decoder(2, false, DecoderState::Grab(1)), &mut e, 0x11);
-}
-
-fn step(s: DecoderState, byte: u8) {
+// A decoder at its start in that state.
+fn alone(held: Held, s: DecoderState) -> Ran {
     state(s);
-    say::text(b" step ");
-    say::byte(byte);
-    say::text(b": ");
-    let stepped = s.step(byte);
-    let result = stepped.result;
-    let after = stepped.state;
-    match result {
+    held.with_decoder(CobsDecoder {
+        place: 0,
+        skip: false,
+        state: s,
+    })
+}
+
+fn result(found: DecodeResult) {
+    match found {
         DecodeResult::NoData => {
             say::text(b"NoData");
         }
@@ -154,30 +62,152 @@ fn step(s: DecoderState, byte: u8) {
             say::byte(b);
         }
         DecodeResult::InvalidFrame => {
-            say::text(b"InvalidFrame 0");
+            say::numbered(words::INVALID_FRAME, 0);
         }
     }
+}
+
+fn step(held: Held, case: Case, m: &[u8]) -> Ran {
+    if !case.has(0, OF) {
+        return held.unknown();
+    }
+    if m.len() != 1 {
+        return held.unknown();
+    }
+    let d = held.decoder;
+    let s = d.state;
+    let stepped = s.step(m[0]);
+    let found = stepped.result;
+    let after = stepped.state;
+    result(found);
     say::text(b", ");
-    state(after);
-    say::end();
+    alone(held, after)
 }
 
-fn alone() {
-    step(DecoderState::new(), 0x00);
-    step(DecoderState::new(), 0x03);
-    step(DecoderState::new(), 0xFF);
-    step(DecoderState::Grab(2), 0x11);
-    step(DecoderState::Grab(1), 0x00);
-    step(DecoderState::Grab(0), 0x02);
-    step(DecoderState::Grab(0), 0x00);
-    step(DecoderState::GrabChain(0), 0x02);
-    step(DecoderState::GrabChain(0), 0xFF);
-    step(DecoderState::GrabChain(1), 0x00);
+// The state that the line names, whose count of bytes left is below 256.
+fn named(held: Held, number: usize, case: Case) -> Ran {
+    if case.parts != NEITHER {
+        return held.unknown();
+    }
+    let left = case.numbers[0];
+    if 255 < left {
+        return held.unknown();
+    }
+    match number {
+        0 => alone(held, DecoderState::new()),
+        1 => alone(held, DecoderState::Idle),
+        2 => alone(held, DecoderState::Grab(left as u8)),
+        _ => alone(held, DecoderState::GrabChain(left as u8)),
+    }
 }
 
-pub(crate) fn run() {
-    overfull();
-    cuttings();
-    states();
-    alone();
+/// `DecoderState::new`, `DecoderState::Idle`, `DecoderState::Grab LEFT`, `DecoderState::GrabChain LEFT`, and
+/// `DecoderState::step of BYTE` from there.
+pub(crate) fn states(name: &[u8], case: Case, held: Held, m: &[u8]) -> Ran {
+    let number = words::which(
+        name,
+        b"DecoderState::new DecoderState::Idle DecoderState::Grab DecoderState::GrabChain DecoderState::step",
+    );
+    if number == 4 {
+        return step(held, case, m);
+    }
+    if 4 < number {
+        return held.unknown();
+    }
+    named(held, number, case)
+}
+
+fn answer(found: PushAnswer) {
+    match found {
+        PushAnswer::More => {
+            say::answer(words::MORE);
+        }
+        PushAnswer::Frame { size, parsed } => {
+            say::named(b"frame ", size);
+            say::named(b", parsed ", parsed);
+        }
+        PushAnswer::InvalidFrame { decoded, consumed } => {
+            say::numbered(words::INVALID_FRAME, decoded);
+            say::named(b", consumed ", consumed);
+        }
+        PushAnswer::TargetBufTooSmall { consumed } => {
+            say::answer(words::TARGET_BUF_TOO_SMALL);
+            say::named(b", consumed ", consumed);
+        }
+        PushAnswer::BadState => {
+            say::answer(words::BAD_STATE);
+        }
+    }
+}
+
+fn answered(held: Held, pushed: Pushed, dest: &[u8]) -> Ran {
+    let found = pushed.answer;
+    let next = pushed.next;
+    answer(found);
+    say::text(b", ");
+    shown(next);
+    say::holds(dest);
+    held.with_decoder(next)
+}
+
+fn push(held: Held, case: Case, piece: &[u8], dest: &mut [u8]) -> Ran {
+    if !case.has(0, OF) {
+        return held.unknown();
+    }
+    let d = held.decoder;
+    let pushed = d.push(dest, piece);
+    answered(held, pushed, dest)
+}
+
+fn feed(held: Held, case: Case, m: &[u8], dest: &mut [u8]) -> Ran {
+    if !case.has(0, OF) {
+        return held.unknown();
+    }
+    if m.len() != 1 {
+        return held.unknown();
+    }
+    let d = held.decoder;
+    let pushed = d.feed(dest, m[0]);
+    answered(held, pushed, dest)
+}
+
+fn new(held: Held, case: Case) -> Ran {
+    if !case.sets(0) {
+        return held.unknown();
+    }
+    let fresh = CobsDecoder::new();
+    shown(fresh);
+    held.with_decoder(fresh)
+}
+
+// The write place and the skip flag, in the state that stands.
+fn set(held: Held, case: Case) -> Ran {
+    if !case.sets(2) {
+        return held.unknown();
+    }
+    let skip = case.numbers[1];
+    let d = held.decoder;
+    let s = d.state;
+    let decoder = CobsDecoder {
+        place: case.numbers[0],
+        skip: skip != 0,
+        state: s,
+    };
+    shown(decoder);
+    held.with_decoder(decoder)
+}
+
+/// `CobsDecoder PLACE SKIP`, a decoder of those numbers in the state that stands, and `CobsDecoder::new`, also with
+/// `on BUFFER`; `CobsDecoder::push of PIECE`, `CobsDecoder::feed of BYTE`.
+pub(crate) fn run(name: &[u8], case: Case, held: Held, m: &[u8], dest: &mut [u8]) -> Ran {
+    match words::which(
+        name,
+        b"CobsDecoder CobsDecoder::new CobsDecoder::push CobsDecoder::feed",
+    ) {
+        0 => set(held, case),
+        1 => new(held, case),
+        2 => push(held, case, m, dest),
+        3 => feed(held, case, m, dest),
+        _ => held.unknown(),
+    }
 }

@@ -1,18 +1,108 @@
-//! Records: each line has the record, its bytes or the call; the answer; and the bytes that were written.
+//! Records: written, read and written again, classed, and as a frame.
+use crate::read::Case;
+use crate::read::NEITHER;
+use crate::read::OF;
+use crate::read::OF_ON;
 use crate::say;
+use crate::words;
 use record::Class;
 use record::ReadAnswer;
 use record::Record;
 use record::WriteAnswer;
 use record::frame::FrameWritten;
 
-fn three(name: &[u8], batch: u16, and: &[u8], index: u16, so: &[u8], weight: u32) {
-    say::text(name);
-    say::number(batch as usize);
-    say::text(and);
-    say::number(index as usize);
-    say::text(so);
-    say::number(weight as usize);
+fn write(item: Record) {
+    let done = record::write(item);
+    let answer = done.answer;
+    match answer {
+        WriteAnswer::Done => {
+            say::answer(words::DONE);
+        }
+        WriteAnswer::BadRecord => {
+            say::answer(words::BAD_RECORD);
+        }
+    }
+    say::text(b";");
+    say::bytes(&done.bytes);
+}
+
+// From 16 bits of two's complement.
+fn signed(n: u16) -> i16 {
+    if n < 32_768 {
+        return n as i16;
+    }
+    ((n as i32) - 65_536) as i16
+}
+
+// A place of the particle: from -32,768 to 32,767, where a number below 0 was taken modulo 2 to the 64.
+fn is_place(n: usize) -> bool {
+    if n < 32_768 {
+        return true;
+    }
+    18_446_744_073_709_518_848 <= n
+}
+
+fn place(n: usize) -> i16 {
+    signed((n % 65_536) as u16)
+}
+
+fn are_places(x: usize, y: usize, z: usize) -> bool {
+    if !is_place(x) {
+        return false;
+    }
+    if !is_place(y) {
+        return false;
+    }
+    is_place(z)
+}
+
+// The first two numbers are 16 bits, and the last is 32.
+fn fits(batch: usize, index: usize, weight: usize) -> bool {
+    if 65_535 < batch {
+        return false;
+    }
+    if 65_535 < index {
+        return false;
+    }
+    weight <= 4_294_967_295
+}
+
+fn particle(case: Case) -> bool {
+    if !case.has(6, NEITHER) {
+        return false;
+    }
+    let n = case.numbers;
+    if !fits(n[0], n[1], n[5]) {
+        return false;
+    }
+    if !are_places(n[2], n[3], n[4]) {
+        return false;
+    }
+    write(Record::Particle {
+        batch: (n[0] % 65_536) as u16,
+        index: (n[1] % 65_536) as u16,
+        x: place(n[2]),
+        y: place(n[3]),
+        z: place(n[4]),
+        weight: (n[5] % 4_294_967_296) as u32,
+    });
+    true
+}
+
+fn close(case: Case) -> bool {
+    if !case.has(3, NEITHER) {
+        return false;
+    }
+    let n = case.numbers;
+    if !fits(n[0], n[1], n[2]) {
+        return false;
+    }
+    write(Record::Close {
+        batch: (n[0] % 65_536) as u16,
+        count: (n[1] % 65_536) as u16,
+        total: (n[2] % 4_294_967_296) as u32,
+    });
+    true
 }
 
 fn shown(item: Record) {
@@ -25,63 +115,54 @@ fn shown(item: Record) {
             z: _,
             weight,
         } => {
-            three(b"particle ", batch, b" index ", index, b" weight ", weight);
+            say::named(b"particle ", batch as usize);
+            say::named(b" index ", index as usize);
+            say::named(b" weight ", weight as usize);
         }
         Record::Close {
             batch,
             count,
             total,
         } => {
-            three(b"close ", batch, b" count ", count, b" total ", total);
+            say::named(b"close ", batch as usize);
+            say::named(b" count ", count as usize);
+            say::named(b" total ", total as usize);
         }
     }
-}
-
-fn write(item: Record) {
-    shown(item);
-    say::text(b": ");
-    let done = record::write(item);
-    let answer = done.answer;
-    match answer {
-        WriteAnswer::Done => {
-            say::text(b"Done");
-        }
-        WriteAnswer::BadRecord => {
-            say::text(b"BadRecord");
-        }
-    }
-    say::text(b";");
-    say::bytes(&done.bytes);
-    say::end();
 }
 
 // What is read is written again, so that x, y and z show.
-fn read(bytes: &[u8]) {
-    say::text(b"read");
-    say::bytes(bytes);
-    say::text(b": ");
-    let found = record::read(bytes, 0);
+fn read(case: Case, m: &[u8]) -> bool {
+    if !case.has(1, OF) {
+        return false;
+    }
+    let found = record::read(m, case.numbers[0]);
     match found {
         ReadAnswer::Good(item) => {
+            shown(item);
+            say::text(b", written ");
             write(item);
         }
         ReadAnswer::BadRecord => {
-            say::text(b"BadRecord");
-            say::end();
+            say::answer(words::BAD_RECORD);
         }
     }
+    true
 }
 
-fn stands(theirs: u16, ours: u16) {
-    say::text(b"ours ");
-    say::number(ours as usize);
-    say::text(b", theirs ");
-    say::number(theirs as usize);
-    say::text(b": ");
-    let class = record::class_of(theirs, ours);
-    match class {
+fn class(case: Case) -> bool {
+    if !case.has(2, NEITHER) {
+        return false;
+    }
+    let theirs = case.numbers[0];
+    let ours = case.numbers[1];
+    if !fits(theirs, ours, 0) {
+        return false;
+    }
+    let found = record::class_of((theirs % 65_536) as u16, (ours % 65_536) as u16);
+    match found {
         Class::Ours => {
-            say::text(b"ours");
+            say::text(b"Ours");
         }
         Class::Ahead => {
             say::text(b"Ahead");
@@ -90,125 +171,44 @@ fn stands(theirs: u16, ours: u16) {
             say::text(b"Stale");
         }
     }
-    say::end();
+    true
 }
 
-fn frame(message: &[u8], dest: &mut [u8]) {
-    say::text(b"write_frame");
-    say::bytes(message);
-    say::text(b" into ");
-    say::number(dest.len());
-    say::text(b": ");
+fn frame(case: Case, message: &[u8], dest: &mut [u8]) -> bool {
+    if !case.has(0, OF_ON) {
+        return false;
+    }
     let found = record::frame::write_frame(message, dest);
     match found {
         FrameWritten::Length(n) => {
             say::number(n);
         }
         FrameWritten::BadLength => {
-            say::text(b"BadLength");
+            say::answer(words::BAD_LENGTH);
         }
         FrameWritten::BadRecord(k) => {
-            say::text(b"BadRecord ");
-            say::number(k);
+            say::numbered(words::BAD_RECORD, k);
         }
         FrameWritten::DestBufTooSmall => {
-            say::text(b"DestBufTooSmall");
+            say::answer(words::DEST_BUF_TOO_SMALL);
         }
     }
-    say::text(b"; holds");
-    say::bytes(dest);
-    say::end();
+    say::holds(dest);
+    true
 }
 
-fn particle(index: u16, x: i16, y: i16, z: i16, weight: u32) -> Record {
-    Record::Particle {
-        batch: 1,
-        index,
-        x,
-        y,
-        z,
-        weight,
+/// `write_particle BATCH INDEX X Y Z WEIGHT`, `write_close BATCH COUNT TOTAL`, `read AT of BYTES`,
+/// `class_of THEIRS OURS`, `write_frame of MESSAGE on BUFFER`.
+pub(crate) fn run(name: &[u8], case: Case, m: &[u8], dest: &mut [u8]) -> bool {
+    match words::which(
+        name,
+        b"write_particle write_close read class_of write_frame",
+    ) {
+        0 => particle(case),
+        1 => close(case),
+        2 => read(case, m),
+        3 => class(case),
+        4 => frame(case, m, dest),
+        _ => false,
     }
-}
-
-fn close(count: u16, total: u32) -> Record {
-    Record::Close {
-        batch: 65_535,
-        count,
-        total,
-    }
-}
-
-// 01's example first, then each field at its limit and past it.
-fn writes() {
-    write(particle(0, -1, 0, 64, 1_000));
-    write(particle(65_535, -32_768, 32_767, -256, 1_000_000));
-    write(particle(0, 0, 0, 0, 1_000_001));
-    write(close(0, 0));
-    write(close(4_096, 4_294_967_295));
-    write(close(4_097, 0));
-}
-
-// 01's example, the greatest weight and one more, kinds that are none, and a board.
-fn reads() {
-    read(b"\x01\x00\x00\x00\xFF\xFF\x00\x00\x40\x00\x01\x00\xE8\x03\x00\x00");
-    read(b"\x34\x12\xFF\x0F\x00\x80\xFF\x7F\x01\x02\x01\x00\x40\x42\x0F\x00");
-    read(b"\x34\x12\xFF\x0F\x00\x80\xFF\x7F\x01\x02\x01\x00\x41\x42\x0F\x00");
-    read(b"\x01\x00\x00\x00\x00\x00\x00\x00\x00\x00\x00\x00\x00\x00\x00\x00");
-    read(b"\x01\x00\x00\x00\x00\x00\x00\x00\x00\x00\x03\x00\x00\x00\x00\x00");
-    read(b"\x01\x00\x00\x00\x00\x00\x00\x00\x00\x00\x01\x01\x00\x00\x00\x00");
-}
-
-// Closes: the greatest count and one more, and a place other than 0.
-fn closes() {
-    read(b"\x01\x00\x00\x10\x00\x00\x00\x00\x00\x00\x02\x00\xFF\xFF\xFF\xFF");
-    read(b"\x01\x00\x01\x10\x00\x00\x00\x00\x00\x00\x02\x00\x00\x00\x00\x00");
-    read(b"\x01\x00\x00\x00\x01\x00\x00\x00\x00\x00\x02\x00\x00\x00\x00\x00");
-    read(b"\x01\x00\x00\x00\x00\x00\x00\x01\x00\x00\x02\x00\x00\x00\x00\x00");
-    read(b"\x01\x00\x00\x00\x00\x00\x00\x00\x01\x00\x02\x00\x00\x00\x00\x00");
-}
-
-fn classes() {
-    stands(0, 65_535);
-    stands(5, 5);
-    stands(32_772, 5);
-    stands(32_773, 5);
-    stands(4, 5);
-    stands(65_535, 0);
-}
-
-// The frame of 01's example. 7 goes before 8, and 8 before 4.
-fn frames() {
-    let good = b"\x01\x00\x00\x00\xFF\xFF\x00\x00\x40\x00\x01\x00\xE8\x03\x00\x00";
-    frame(good, &mut [0x55; 20]);
-    frame(good, &mut [0x55; 18]);
-    frame(good, &mut [0x55; 17]);
-    frame(good, &mut []);
-}
-
-fn lengths() {
-    frame(b"", &mut [0x55; 4]);
-    frame(&[1; 15], &mut [0x55; 4]);
-    frame(&[1; 17], &mut [0x55; 4]);
-    frame(&[0; 256], &mut [0x55; 4]);
-}
-
-// A first record that is bad, a second, and none.
-fn bad_records() {
-    frame(&[0; 240], &mut [0x55; 4]);
-    let mut two = [0u8; 32];
-    two[10] = 1;
-    frame(&two, &mut []);
-    two[26] = 2;
-    frame(&two, &mut [0x55; 34]);
-}
-
-pub(crate) fn run() {
-    writes();
-    reads();
-    closes();
-    classes();
-    frames();
-    lengths();
-    bad_records();
 }

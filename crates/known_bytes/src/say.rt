@@ -1,10 +1,11 @@
-//! What a line is made of.
+//! What a line of the output is made of.
+use crate::words;
 use libc::STDOUT_FILENO;
 ghost use Prim.Native.Nat.{_+_, _≤_, _<_};
 ghost use lib.ListN.{length};
 
-pub(crate) fn text(words: &[u8]) {
-    io::write_all(STDOUT_FILENO, words);
+pub(crate) fn text(bytes: &[u8]) {
+    io::write_all(STDOUT_FILENO, bytes);
 }
 
 pub(crate) fn number(n: usize) {
@@ -17,6 +18,27 @@ pub(crate) fn byte(b: u8) {
 
 pub(crate) fn end() {
     text(b"\n");
+}
+
+/// An answer's name, by its number.
+pub(crate) fn answer(number: usize) {
+    words::show(
+        b"Done|EmptyFrame|InvalidFrame|TargetBufTooSmall|DestBufTooSmall|TooLong|BadState|BadLength|BadRecord|Stale|Ahead|NoRoom|BeyondClose|Conflict|More|Open|Missing|Complete|Differs",
+        number,
+    );
+}
+
+/// An answer and the number that it carries.
+pub(crate) fn numbered(name: usize, n: usize) {
+    answer(name);
+    text(b" ");
+    number(n);
+}
+
+/// A name of the words, and a number.
+pub(crate) fn named(name: &[u8], n: usize) {
+    text(name);
+    number(n);
 }
 
 // How many bytes from `from` on are the same.
@@ -56,4 +78,9 @@ pub(crate) fn bytes(s: &[u8]) {
         row(s[i], n);
         i += n;
     }
+}
+
+pub(crate) fn holds(s: &[u8]) {
+    text(b"; holds");
+    bytes(s);
 }

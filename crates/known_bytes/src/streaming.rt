@@ -1,141 +1,117 @@
-//! The encoder in pieces: each line has the encoder, the piece and the room; the answer; the encoder and the buffer after it.
+//! The encoder in pieces: it and its buffer stay from line to line.
+use crate::alone;
+use crate::held::Held;
+use crate::held::Ran;
+use crate::read::Case;
+use crate::read::NEITHER;
+use crate::read::OF;
+use crate::read::ON;
 use crate::say;
-use enc::state::EncoderState;
+use crate::words;
 use enc::stream::Accepted;
 use enc::stream::Encoder;
 use enc::stream::Finished;
 use enc::stream::Started;
 
 fn shown(e: Encoder) {
-    say::text(b"place ");
-    say::number(e.state.place);
-    say::text(b" code ");
-    say::number(e.state.code as usize);
+    let state = e.state;
+    alone::shown(state);
     if e.full {
         say::text(b" full");
     }
-    say::text(b" count ");
-    say::number(e.count);
+    say::named(b" count ", e.count);
 }
 
-fn push(e: Encoder, dest: &mut [u8], piece: &[u8]) -> Encoder {
-    shown(e);
-    say::text(b" push");
-    say::bytes(piece);
-    say::text(b": ");
-    let pushed = e.push(dest, piece);
-    let answer = pushed.answer;
-    let next = pushed.next;
-    match answer {
+fn set(held: Held, case: Case) -> Ran {
+    if !case.sets(4) {
+        return held.unknown();
+    }
+    if 255 < case.numbers[1] {
+        return held.unknown();
+    }
+    let full = case.numbers[2];
+    let encoder = Encoder {
+        state: alone::state(case),
+        full: full != 0,
+        count: case.numbers[3],
+    };
+    shown(encoder);
+    held.with_encoder(encoder)
+}
+
+fn start(held: Held, case: Case, dest: &[u8]) -> Ran {
+    if !case.has(0, ON) {
+        return held.unknown();
+    }
+    let Started::Ready(encoder) = Encoder::start(dest) else {
+        say::answer(words::DEST_BUF_TOO_SMALL);
+        return held.known();
+    };
+    shown(encoder);
+    held.with_encoder(encoder)
+}
+
+fn answer(found: Accepted) {
+    match found {
         Accepted::Accepted => {
             say::text(b"Accepted");
         }
         Accepted::BadState => {
-            say::text(b"BadState");
+            say::answer(words::BAD_STATE);
         }
         Accepted::TooLong => {
-            say::text(b"TooLong");
+            say::answer(words::TOO_LONG);
         }
         Accepted::DestBufTooSmall => {
-            say::text(b"DestBufTooSmall");
+            say::answer(words::DEST_BUF_TOO_SMALL);
         }
     }
-    say::text(b", ");
-    shown(next);
-    say::text(b"; holds");
-    say::bytes(dest);
-    say::end();
-    next
 }
 
-fn finish(e: Encoder, dest: &mut [u8]) {
-    shown(e);
-    say::text(b" finalize: ");
+fn push(held: Held, case: Case, piece: &[u8], dest: &mut [u8]) -> Ran {
+    if !case.has(0, OF) {
+        return held.unknown();
+    }
+    let e = held.encoder;
+    let pushed = e.push(dest, piece);
+    let found = pushed.answer;
+    let next = pushed.next;
+    answer(found);
+    say::text(b", ");
+    shown(next);
+    say::holds(dest);
+    held.with_encoder(next)
+}
+
+fn finish(held: Held, case: Case, dest: &mut [u8]) -> Ran {
+    if !case.has(0, NEITHER) {
+        return held.unknown();
+    }
+    let e = held.encoder;
     let found = e.finalize(dest);
     match found {
         Finished::Length(n) => {
             say::number(n);
         }
         Finished::BadState => {
-            say::text(b"BadState");
+            say::answer(words::BAD_STATE);
         }
     }
-    say::text(b"; holds");
-    say::bytes(dest);
-    say::end();
+    say::holds(dest);
+    held.known()
 }
 
-fn encoder(place: usize, code: u8, full: bool, count: usize) -> Encoder {
-    let state = EncoderState { place, code };
-    Encoder { state, full, count }
-}
-
-fn start(dest: &[u8]) -> Encoder {
-    say::text(b"start on ");
-    say::number(dest.len());
-    say::text(b": ");
-    let Started::Ready(e) = Encoder::start(dest) else {
-        say::text(b"DestBufTooSmall");
-        say::end();
-        return encoder(0, 1, false, 0);
-    };
-    shown(e);
-    say::end();
-    e
-}
-
-// 11 22 00 33 in three cuttings.
-fn cuttings() {
-    let mut d = [0x55; 6];
-    let a = push(start(&d), &mut d, b"\x11\x22\x00\x33");
-    finish(a, &mut d);
-    let mut f = [0x55; 6];
-    let b = push(start(&f), &mut f, b"\x11");
-    let c = push(b, &mut f, b"");
-    let g = push(c, &mut f, b"\x22\x00\x33");
-    finish(g, &mut f);
-}
-
-// A full group ends the input: an empty piece changes nothing, and no closing 01 is written.
-fn full_group() {
-    let mut d = [0x55; 258];
-    let a = push(start(&d), &mut d, &[1; 254]);
-    let b = push(a, &mut d, b"");
-    finish(b, &mut d);
-    let c = push(b, &mut d, b"\x00");
-    finish(c, &mut d);
-}
-
-// A refused piece changes neither the encoder nor the buffer, and a shorter one is still taken.
-fn refused() {
-    let mut d = [0x55; 3];
-    let a = push(start(&d), &mut d, b"\x11\x22\x33");
-    let b = push(a, &mut d, b"\x11\x22");
-    let c = push(b, &mut d, b"\x00");
-    finish(c, &mut d);
-    start(&[]);
-}
-
-// States that no call reaches, and states that are none.
-fn states() {
-    let mut none: [u8; 0] = [];
-    finish(encoder(0, 1, true, 0), &mut none);
-    let mut d = [0x55; 4];
-    finish(encoder(3, 1, true, 0), &mut d);
-    push(encoder(3, 1, true, 0), &mut d, b"");
-    push(encoder(2, 1, false, 1), &mut d, b"\x11");
-    push(encoder(0, 1, false, 1_048_576), &mut d, b"");
-    push(encoder(0, 1, false, 1_048_576), &mut d, b"\x11");
-    push(encoder(0, 1, false, 1_048_577), &mut d, b"");
-    push(encoder(0, 0, false, 0), &mut d, b"");
-    push(encoder(0, 255, false, 0), &mut d, b"");
-    push(encoder(4, 1, false, 0), &mut d, b"");
-    finish(encoder(0, 2, true, 0), &mut d);
-}
-
-pub(crate) fn run() {
-    cuttings();
-    full_group();
-    refused();
-    states();
+/// `Encoder PLACE CODE FULL COUNT`, an encoder of those numbers, also with `on BUFFER`; `Encoder::start on BUFFER`,
+/// `Encoder::push of PIECE`, `Encoder::finalize`.
+pub(crate) fn run(name: &[u8], case: Case, held: Held, m: &[u8], dest: &mut [u8]) -> Ran {
+    match words::which(
+        name,
+        b"Encoder Encoder::start Encoder::push Encoder::finalize",
+    ) {
+        0 => set(held, case),
+        1 => start(held, case, dest),
+        2 => push(held, case, m, dest),
+        3 => finish(held, case, dest),
+        _ => held.unknown(),
+    }
 }

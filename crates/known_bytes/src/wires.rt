@@ -1,117 +1,117 @@
-//! From the wire to the receiver: each line has the piece; the answer and the bytes consumed; the total and the table.
+//! From the wire to the receiver: the decoder and the receiver that stand, and a buffer for the decoder.
+use crate::held::Held;
+use crate::held::Ran;
+use crate::read::Case;
+use crate::read::OF;
+use crate::read::ON;
 use crate::say;
+use crate::words;
 use wire::Received;
 use wire::Wire;
 
-fn numbered(name: &[u8], k: usize) {
-    say::text(name);
-    say::number(k);
-}
-
-// How the batch stands after a frame; the refusals with a record's number are the receiver's, and are not met here.
-fn standing(found: Received) {
-    match found {
-        Received::Open => {
-            say::text(b"Open");
-        }
-        Received::Missing(k) => {
-            numbered(b"Missing ", k);
-        }
-        Received::Complete => {
-            say::text(b"Complete");
-        }
-        Received::Differs => {
-            say::text(b"Differs");
-        }
-        _ => {}
-    }
-}
-
-fn answered(found: Received) {
+fn answer(found: Received) {
     match found {
         Received::More => {
-            say::text(b"More");
+            say::answer(words::MORE);
         }
         Received::InvalidFrame { decoded } => {
-            numbered(b"InvalidFrame ", decoded);
+            say::numbered(words::INVALID_FRAME, decoded);
         }
         Received::TargetBufTooSmall => {
-            say::text(b"TargetBufTooSmall");
+            say::answer(words::TARGET_BUF_TOO_SMALL);
         }
         Received::BadState => {
-            say::text(b"BadState");
+            say::answer(words::BAD_STATE);
         }
         Received::BadLength => {
-            say::text(b"BadLength");
+            say::answer(words::BAD_LENGTH);
         }
-        _ => {
-            standing(found);
+        Received::BadRecord(k) => {
+            say::numbered(words::BAD_RECORD, k);
+        }
+        Received::Stale(k) => {
+            say::numbered(words::STALE, k);
+        }
+        Received::Ahead(k) => {
+            say::numbered(words::AHEAD, k);
+        }
+        Received::NoRoom(k) => {
+            say::numbered(words::NO_ROOM, k);
+        }
+        Received::BeyondClose(k) => {
+            say::numbered(words::BEYOND_CLOSE, k);
+        }
+        Received::Conflict(k) => {
+            say::numbered(words::CONFLICT, k);
+        }
+        Received::Open => {
+            say::answer(words::OPEN);
+        }
+        Received::Missing(k) => {
+            say::numbered(words::MISSING, k);
+        }
+        Received::Complete => {
+            say::answer(words::COMPLETE);
+        }
+        Received::Differs => {
+            say::answer(words::DIFFERS);
         }
     }
 }
 
-fn receive(w: Wire, buffer: &mut [u8], table: &mut [u8], piece: &[u8]) -> Wire {
-    say::text(b"receive");
-    say::bytes(piece);
-    say::text(b": ");
-    let receipt = wire::receive(w, buffer, table, piece);
+fn open(held: Held, case: Case, table: &[u8]) -> Ran {
+    if !case.has(1, ON) {
+        return held.unknown();
+    }
+    let number = case.numbers[0];
+    if 65_535 < number {
+        return held.unknown();
+    }
+    let opened = Wire::open(number as u16, table);
+    let receiver = opened.receiver;
+    say::named(b"batch ", receiver.batch as usize);
+    say::named(b", slots ", receiver.slots);
+    held.with_wire(opened)
+}
+
+fn receive(held: Held, case: Case, piece: &[u8], table: &mut [u8], buffer: &mut [u8]) -> Ran {
+    if !case.has(1, OF) {
+        return held.unknown();
+    }
+    let room = case.numbers[0];
+    if buffer.len() < room {
+        return held.unknown();
+    }
+    let decoder = held.decoder;
+    let receiver = held.receiver;
+    let receipt = wire::receive(
+        Wire { decoder, receiver },
+        &mut buffer[0..room],
+        table,
+        piece,
+    );
     let found = receipt.answer;
     let next = receipt.next;
-    answered(found);
-    numbered(b", consumed ", receipt.consumed);
-    numbered(b"; total ", next.receiver.total as usize);
-    say::text(b"; holds");
-    say::bytes(table);
-    say::end();
-    next
+    let after = next.receiver;
+    answer(found);
+    say::named(b", consumed ", receipt.consumed);
+    say::named(b"; total ", after.total as usize);
+    say::holds(table);
+    held.with_wire(next)
 }
 
-// Particle 1, cut in two with nothing between.
-fn cut(w: Wire, buffer: &mut [u8], t: &mut [u8]) -> Wire {
-    let a = receive(w, buffer, t, b"\x02\x07\x02\x01\x02\x01\x02\x02");
-    let b = receive(a, buffer, t, b"");
-    receive(b, buffer, t, b"\x02\x03\x02\x01\x03\xD0\x07\x01\x01\x00")
-}
-
-// Its repeat, with a part of another frame after it, and the close.
-fn again(w: Wire, buffer: &mut [u8], t: &mut [u8]) -> Wire {
-    let a = receive(
-        w,
-        buffer,
-        t,
-        b"\x02\x07\x02\x01\x02\x01\x02\x02\x02\x03\x02\x01\x03\xD0\x07\x01\x01\x00\x02\x07",
-    );
-    receive(
-        a,
-        buffer,
-        t,
-        b"\x02\x07\x02\x02\x01\x01\x01\x01\x01\x01\x02\x02\x03\xB8\x0B\x01\x01\x00",
-    )
-}
-
-// A short group, a message that is no record, and a frame too long for the buffer.
-fn faulty(w: Wire, buffer: &mut [u8], t: &mut [u8]) -> Wire {
-    let a = receive(w, buffer, t, b"\x03\x11\x00");
-    let b = receive(a, buffer, t, b"\x02\x11\x00");
-    receive(b, buffer, t, &[0x13; 19])
-}
-
-// The rest of that frame is dropped; then particle 0, which was missing.
-fn last(w: Wire, buffer: &mut [u8], t: &mut [u8]) {
-    receive(
-        w,
-        buffer,
-        t,
-        b"\x11\x00\x02\x07\x01\x01\x02\x01\x02\x02\x02\x03\x02\x01\x03\xE8\x03\x01\x01\x00",
-    );
-}
-
-// A batch of two, out of order.
-pub(crate) fn run() {
-    let mut buffer = [0x55; 16];
-    let mut t = [0x55; 32];
-    let a = cut(Wire::open(7, &t), &mut buffer, &mut t);
-    let b = again(a, &mut buffer, &mut t);
-    let c = faulty(b, &mut buffer, &mut t);
-    last(c, &mut buffer, &mut t);
+/// `Wire::open BATCH on TABLE`, `wire::receive ROOM of PIECE`, with so many bytes for the decoder.
+pub(crate) fn run(
+    name: &[u8],
+    case: Case,
+    held: Held,
+    m: &[u8],
+    table: &mut [u8],
+    buffer: &mut [u8],
+) -> Ran {
+    match words::which(name, b"Wire::open wire::receive") {
+        0 => open(held, case, table),
+        1 => receive(held, case, m, table, buffer),
+        _ => held.unknown(),
+    }
 }
