@@ -1,7 +1,4 @@
 //! EncoderState alone: what a byte asks of the output, and the state after it.
-use crate::read::Case;
-use crate::read::NEITHER;
-use crate::read::OF;
 use crate::say;
 use crate::words;
 use enc::state::EncoderState;
@@ -9,101 +6,71 @@ use enc::state::PushResult;
 use enc::state::StateFinished;
 
 pub(crate) fn shown(s: EncoderState) {
-    say::named(b"place ", s.place);
-    say::named(b" code ", s.code as usize);
+    say::named(words::PLACE, s.place);
+    say::named(words::CODE, s.code as usize);
 }
 
-fn modify(name: &[u8], place: usize, code: u8) {
-    say::named(name, place);
-    say::text(b" ");
+// Where a code goes, and the code.
+fn modify(place: usize, code: u8) {
+    say::number(place);
+    say::word(words::SPACE);
     say::byte(code);
 }
 
 fn asked(result: PushResult) {
     match result {
         PushResult::AddSingle(b) => {
-            say::text(b"AddSingle ");
+            say::word(words::ADD_SINGLE);
             say::byte(b);
         }
         PushResult::ModifyFromStartAndSkip { place, code } => {
-            modify(b"ModifyFromStartAndSkip ", place, code);
+            say::word(words::MODIFY_AND_SKIP);
+            modify(place, code);
         }
         PushResult::ModifyFromStartAndPushAndSkip { place, code, byte } => {
-            modify(b"ModifyFromStartAndPushAndSkip ", place, code);
-            say::text(b" ");
+            say::word(words::MODIFY_PUSH_AND_SKIP);
+            modify(place, code);
+            say::word(words::SPACE);
             say::byte(byte);
         }
         PushResult::BadState => {
-            say::answer(words::BAD_STATE);
+            say::word(words::BAD_STATE);
         }
     }
 }
 
-fn new(case: Case) -> bool {
-    if !case.has(0, NEITHER) {
-        return false;
-    }
-    shown(EncoderState::new());
-    true
-}
-
-// The state of the line's first two numbers, of which the second is below 256.
-pub(crate) fn state(case: Case) -> EncoderState {
-    let place = case.numbers[0];
-    let code = case.numbers[1];
-    EncoderState {
-        place,
-        code: (code % 256) as u8,
-    }
-}
-
-fn push(case: Case, m: &[u8]) -> bool {
-    if !case.has(2, OF) {
-        return false;
-    }
-    if 255 < case.numbers[1] {
-        return false;
-    }
-    if m.len() != 1 {
-        return false;
-    }
-    let pushed = state(case).push(m[0]);
+fn push(s: EncoderState, b: u8) {
+    let pushed = s.push(b);
     let result = pushed.result;
     let next = pushed.next;
     asked(result);
-    say::text(b", ");
+    say::word(words::COMMA);
     shown(next);
-    true
 }
 
-fn finish(case: Case) -> bool {
-    if !case.has(2, NEITHER) {
-        return false;
-    }
-    if 255 < case.numbers[1] {
-        return false;
-    }
-    let found = state(case).finalize();
+fn finish(s: EncoderState) {
+    let found = s.finalize();
     match found {
         StateFinished::Modify { place, code } => {
-            modify(b"", place, code);
+            modify(place, code);
         }
         StateFinished::BadState => {
-            say::answer(words::BAD_STATE);
+            say::word(words::BAD_STATE);
         }
     }
-    true
 }
 
 /// `EncoderState::new`, `EncoderState::push PLACE CODE of BYTE`, `EncoderState::finalize PLACE CODE`.
-pub(crate) fn run(name: &[u8], case: Case, m: &[u8]) -> bool {
-    match words::which(
-        name,
-        b"EncoderState::new EncoderState::push EncoderState::finalize",
-    ) {
-        0 => new(case),
-        1 => push(case, m),
-        2 => finish(case),
-        _ => false,
+pub(crate) fn run(k: usize, place: usize, code: u8, byte: u8) {
+    match k {
+        0 => {
+            shown(EncoderState::new());
+        }
+        1 => {
+            push(EncoderState { place, code }, byte);
+        }
+        _ => {
+            finish(EncoderState { place, code });
+        }
     }
 }

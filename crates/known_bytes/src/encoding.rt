@@ -1,6 +1,4 @@
 //! One-shot encoding: the length or a refusal, and what the buffer then holds.
-use crate::read::Case;
-use crate::read::OF_ON;
 use crate::say;
 use crate::words;
 use enc::oneshot::Encoded;
@@ -12,10 +10,10 @@ fn answer(found: Encoded) {
             say::number(n);
         }
         Encoded::TooLong => {
-            say::answer(words::TOO_LONG);
+            say::word(words::TOO_LONG);
         }
         Encoded::DestBufTooSmall => {
-            say::answer(words::DEST_BUF_TOO_SMALL);
+            say::word(words::DEST_BUF_TOO_SMALL);
         }
     }
 }
@@ -26,29 +24,16 @@ fn answer_with(found: EncodedWith) {
             say::number(n);
         }
         EncodedWith::TooLong => {
-            say::answer(words::TOO_LONG);
+            say::word(words::TOO_LONG);
         }
         EncodedWith::DestBufTooSmall => {
-            say::answer(words::DEST_BUF_TOO_SMALL);
+            say::word(words::DEST_BUF_TOO_SMALL);
         }
     }
 }
 
-fn sentinel(case: Case, m: &[u8], dest: &mut [u8]) -> bool {
-    if !case.has(1, OF_ON) {
-        return false;
-    }
-    let sentinel = case.numbers[0];
-    if 255 < sentinel {
-        return false;
-    }
-    answer_with(enc::oneshot::encode_with_sentinel(m, dest, sentinel as u8));
-    say::holds(dest);
-    true
-}
-
-fn call(number: usize, m: &[u8], dest: &mut [u8]) -> Encoded {
-    match number {
+fn plain(k: usize, m: &[u8], dest: &mut [u8]) -> Encoded {
+    match k {
         0 => enc::oneshot::encode(m, dest),
         1 => enc::oneshot::try_encode(m, dest),
         2 => enc::oneshot::encode_including_sentinels(m, dest),
@@ -56,26 +41,11 @@ fn call(number: usize, m: &[u8], dest: &mut [u8]) -> Encoded {
     }
 }
 
-fn plain(number: usize, case: Case, m: &[u8], dest: &mut [u8]) -> bool {
-    if 3 < number {
-        return false;
-    }
-    if !case.has(0, OF_ON) {
-        return false;
-    }
-    answer(call(number, m, dest));
-    say::holds(dest);
-    true
-}
-
 /// `encode of MESSAGE on BUFFER` and its like, `encode_with_sentinel SENTINEL of MESSAGE on BUFFER`.
-pub(crate) fn run(name: &[u8], case: Case, m: &[u8], dest: &mut [u8]) -> bool {
-    let number = words::which(
-        name,
-        b"encode try_encode encode_including_sentinels try_encode_including_sentinels encode_with_sentinel",
-    );
-    if number == 4 {
-        return sentinel(case, m, dest);
+pub(crate) fn run(k: usize, sentinel: u8, m: &[u8], dest: &mut [u8]) {
+    if k == 4 {
+        answer_with(enc::oneshot::encode_with_sentinel(m, dest, sentinel));
+        return;
     }
-    plain(number, case, m, dest)
+    answer(plain(k, m, dest));
 }

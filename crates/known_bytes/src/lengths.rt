@@ -1,6 +1,4 @@
 //! The two length functions.
-use crate::read::Case;
-use crate::read::NEITHER;
 use crate::say;
 use crate::words;
 use cobs::Length;
@@ -11,27 +9,16 @@ fn answer(found: Length) {
             say::number(n);
         }
         Length::TooLong => {
-            say::answer(words::TOO_LONG);
+            say::word(words::TOO_LONG);
         }
     }
 }
 
-/// `max_encoding_overhead LENGTH`, `max_encoding_length LENGTH`. False for any other line.
-pub(crate) fn run(name: &[u8], case: Case) -> bool {
-    if !case.has(1, NEITHER) {
-        return false;
+/// `max_encoding_overhead LENGTH`, `max_encoding_length LENGTH`.
+pub(crate) fn run(k: usize, n: usize) {
+    if k == 0 {
+        answer(cobs::max_encoding_overhead(n));
+    } else {
+        answer(cobs::max_encoding_length(n));
     }
-    let n = case.numbers[0];
-    match words::which(name, b"max_encoding_overhead max_encoding_length") {
-        0 => {
-            answer(cobs::max_encoding_overhead(n));
-        }
-        1 => {
-            answer(cobs::max_encoding_length(n));
-        }
-        _ => {
-            return false;
-        }
-    }
-    true
 }

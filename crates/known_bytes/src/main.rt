@@ -1,25 +1,22 @@
-//! 01's known bytes, run by the compiled code. Each line of the input is a call; it is written with the answer after it, and
-//! the whole is held to the stored output. A heading starts with `#`.
+//! 01's known bytes of the code, run by the compiled code. Each line of the input is a call; it is written with the answer
+//! after it, and the whole is held to the stored output. A line that starts with `#` is a heading.
 mod alone;
-mod batches;
 mod cases;
 mod decoding;
 mod encoding;
 mod feeding;
-mod held;
 mod lengths;
 mod read;
-mod records;
 mod say;
 mod streaming;
-mod wires;
 mod words;
 
+use cases::Held;
 use dec::stream::CobsDecoder;
 use enc::state::EncoderState;
 use enc::stream::Encoder;
-use held::Held;
 use libc::STDIN_FILENO;
+use read::Bytes;
 
 fn start() -> Held {
     let encoder = Encoder {
@@ -28,17 +25,15 @@ fn start() -> Held {
         count: 0,
     };
     let decoder = CobsDecoder::new();
-    let receiver = batch::open(0, &[]);
-    Held {
-        room: 0,
-        encoder,
-        decoder,
-        receiver,
-    }
+    Held { encoder, decoder }
 }
 
-fn lines(text: &[u8], message: &mut [u8], dest: &mut [u8], buffer: &mut [u8]) {
+fn lines(text: &[u8]) {
     let mut held = start();
+    let mut buffer = Bytes {
+        all: [0; 640],
+        len: 0,
+    };
     let mut number = 0;
     let mut at = 0;
     while at < text.len() {
@@ -46,16 +41,11 @@ fn lines(text: &[u8], message: &mut [u8], dest: &mut [u8], buffer: &mut [u8]) {
         let end = words::find(text, from, b'\n');
         at = end + 1;
         number += 1;
-        held = cases::run(&text[from..end], number, held, message, dest, buffer);
+        let after = cases::run(&text[from..end], number, held, buffer);
+        say::end();
+        held = after.held;
+        buffer = after.buffer;
     }
-}
-
-// The buffer may be a table with one slot more than a receiver's most; the decoder's on the wire takes the longest frame.
-fn run(text: &[u8]) {
-    let mut message = io::buffer();
-    let mut dest = [0u8; 65_552];
-    let mut buffer = [0u8; 240];
-    lines(text, &mut message, &mut dest, &mut buffer);
 }
 
 fn main() {
@@ -65,5 +55,5 @@ fn main() {
         say::text(b"the input is too long\n");
         return;
     }
-    run(&text[..n]);
+    lines(&text[..n]);
 }

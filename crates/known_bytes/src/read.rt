@@ -1,131 +1,51 @@
 //! A case: the words of a line after its name. First decimal numbers; after `of` the bytes that are read; after `on` the
 //! buffer that is written. Bytes are in hexadecimal, `254*01` is a row of equal ones, and `-` is none.
 use crate::words;
-ghost use Prim.Native.Nat.{_+_, _≤_};
-ghost use lib.ListN.{length};
+ghost use Prim.Native.Nat.{_≤_};
 
-// Which of `of` and `on` a line has.
-pub(crate) const NEITHER: usize = 0;
+// A line that could not be read to its end. Else its parts are 1 for `of` and 2 for `on`.
+const UNREAD: usize = 9;
 
-pub(crate) const OF: usize = 1;
+// The most bytes of a message, and of a buffer.
+const MOST: usize = 640;
 
-pub(crate) const ON: usize = 2;
+/// Bytes and how many of them count. By value, since a check's time goes with what is lent as `&mut`.
+pub(crate) struct Bytes {
+    pub all: [u8; 640],
+    pub len: usize,
+}
 
-pub(crate) const OF_ON: usize = 3;
-
-const UNREAD: usize = 4;
-
-/// The most numbers of a line.
-const MOST: usize = 6;
-
-/// The numbers with their count; the lengths of the message and of the buffer, whose bytes stand in arrays of their own.
+/// What a line says. A line without `on` keeps the buffer of the lines before it.
 pub(crate) struct Case {
     pub parts: usize,
-    pub numbers: [usize; 6],
+    pub numbers: [usize; 4],
     pub count: usize,
-    pub message: usize,
-    pub room: usize,
+    pub message: Bytes,
+    pub buffer: Bytes,
+}
+
+// Words that were read, and where the next one starts.
+struct Counted {
+    at: usize,
+    numbers: [usize; 4],
+    count: usize,
+}
+
+// The same of bytes; `parts` is 0 where the word before them was not there.
+struct Span {
+    parts: usize,
+    at: usize,
+    bytes: Bytes,
+}
+
+struct Grown {
+    good: bool,
+    bytes: Bytes,
 }
 
 enum Number {
     Is(usize),
     Not,
-}
-
-enum Octet {
-    Is(u8),
-    Not,
-}
-
-impl Case {
-    // A line without `on` keeps the buffer of the lines before it.
-    fn new(room: usize) -> Self {
-        Case {
-            parts: NEITHER,
-            numbers: [0; 6],
-            count: 0,
-            message: 0,
-            room,
-        }
-    }
-
-    /// Has this many numbers, and these parts.
-    pub(crate) fn has(self, count: usize, parts: usize) -> bool {
-        if self.count != count {
-            return false;
-        }
-        self.parts == parts
-    }
-
-    /// Has this many numbers, and no message; with a buffer or without.
-    pub(crate) fn sets(self, count: usize) -> bool {
-        if self.count != count {
-            return false;
-        }
-        self.parts % 2 == 0
-    }
-
-    pub(crate) fn is_unread(self) -> bool {
-        self.parts == UNREAD
-    }
-
-    fn unread(self) -> Self {
-        let mut case = self;
-        case.parts = UNREAD;
-        case
-    }
-
-    fn of(self) -> Self {
-        if self.parts != NEITHER {
-            return self.unread();
-        }
-        let mut case = self;
-        case.parts = OF;
-        case
-    }
-
-    fn on(self) -> Self {
-        let parts = self.parts;
-        if OF < parts {
-            return self.unread();
-        }
-        let mut case = self;
-        case.parts = parts + ON;
-        case.room = 0;
-        case
-    }
-
-    fn with_number(self, found: Number) -> Self {
-        let Number::Is(n) = found else {
-            return self.unread();
-        };
-        let at = self.count;
-        if MOST <= at {
-            return self.unread();
-        }
-        let mut case = self;
-        case.numbers[at] = n;
-        case.count = at + 1;
-        case
-    }
-
-    fn with_message(self, found: Number) -> Self {
-        let Number::Is(n) = found else {
-            return self.unread();
-        };
-        let mut case = self;
-        case.message = n;
-        case
-    }
-
-    fn with_room(self, found: Number) -> Self {
-        let Number::Is(n) = found else {
-            return self.unread();
-        };
-        let mut case = self;
-        case.room = n;
-        case
-    }
 }
 
 // The number with one digit more, if that is a digit and the number still fits.
@@ -143,7 +63,7 @@ fn further(n: usize, digit: u8) -> Number {
     Number::Is(n * 10 + d)
 }
 
-fn unsigned(w: &[u8]) -> Number {
+fn decimal(w: &[u8]) -> Number {
     if w.len() == 0 {
         return Number::Not;
     }
@@ -159,128 +79,173 @@ fn unsigned(w: &[u8]) -> Number {
     Number::Is(n)
 }
 
-// A number below 0 is taken modulo 2 to the 64.
-fn signed(w: &[u8]) -> Number {
-    if w.len() == 0 {
-        return Number::Not;
+// 256 for what is no digit.
+fn nibble(digit: u8) -> usize
+    ensures { λ r. ⌜ r ≤ 256 ⌝ }
+{
+    let n = words::find(b"0123456789abcdef", 0, digit);
+    if n < 16 {
+        return n;
     }
-    if w[0] != b'-' {
-        return unsigned(w);
-    }
-    let Number::Is(n) = unsigned(&w[1..]) else {
-        return Number::Not;
-    };
-    Number::Is(std::num::wrapping_sub_usize(0, n))
+    256
 }
 
-fn nibble(digit: u8) -> Octet {
-    if digit < b'0' {
-        return Octet::Not;
-    }
-    if digit <= b'9' {
-        return Octet::Is(digit - b'0');
-    }
-    if digit < b'a' {
-        return Octet::Not;
-    }
-    if b'f' < digit {
-        return Octet::Not;
-    }
-    Octet::Is(digit - b'a' + 10)
-}
-
-// Two digits, and nothing after them.
-fn two_digits(w: &[u8]) -> Octet {
+// Two digits, and nothing after them; over 255 for anything else.
+fn octet(w: &[u8]) -> usize {
     if w.len() != 2 {
-        return Octet::Not;
+        return 256;
     }
-    let Octet::Is(high) = nibble(w[0]) else {
-        return Octet::Not;
-    };
-    let Octet::Is(low) = nibble(w[1]) else {
-        return Octet::Not;
-    };
-    Octet::Is(high % 16 * 16 + low % 16)
+    nibble(w[0]) * 16 + nibble(w[1])
 }
 
-fn fill(part: &mut [u8], b: u8) {
-    let mut i = 0;
-    while i < part.len() {
-        part[i] = b;
+fn fill(all: [u8; 640], from: usize, to: usize, b: u8) -> [u8; 640]
+    requires { ⌜ to ≤ 640 ⌝ }
+{
+    let mut out = all;
+    let mut i = from;
+    while i < to {
+        out[i] = b;
         i += 1;
     }
+    out
 }
 
-// The end of a row of n bytes from `at` on, which is then there.
-fn put(buf: &mut [u8], at: usize, n: usize, found: Octet) -> Number {
-    let Octet::Is(b) = found else {
-        return Number::Not;
-    };
-    if buf.len() < at {
-        return Number::Not;
-    }
-    if buf.len() - at < n {
-        return Number::Not;
-    }
-    let end = at + n;
-    fill(&mut buf[at..end], b);
-    Number::Is(end)
+fn bad(bytes: Bytes) -> Grown {
+    Grown { good: false, bytes }
 }
 
-// The end of what the word says, put into the buffer from `at` on.
-fn row(w: &[u8], buf: &mut [u8], at: usize) -> Number {
-    if words::which(w, b"-") == 0 {
-        return Number::Is(at);
+// The bytes with n more, where they fit.
+fn more(bytes: Bytes, n: usize, b: usize) -> Grown {
+    let at = bytes.len;
+    if 255 < b {
+        return bad(bytes);
+    }
+    if MOST < at {
+        return bad(bytes);
+    }
+    if MOST - at < n {
+        return bad(bytes);
+    }
+    let to = at + n;
+    let before = bytes.all;
+    let all = fill(before, at, to, b as u8);
+    let after = Bytes { all, len: to };
+    Grown {
+        good: true,
+        bytes: after,
+    }
+}
+
+// The bytes with those that the word says.
+fn row(bytes: Bytes, w: &[u8]) -> Grown {
+    if w.len() == 1 {
+        return Grown {
+            good: w[0] == b'-',
+            bytes,
+        };
     }
     let star = words::find(w, 0, b'*');
     if star == w.len() {
-        return put(buf, at, 1, two_digits(w));
+        return more(bytes, 1, octet(w));
     }
-    let Number::Is(n) = unsigned(&w[0..star]) else {
-        return Number::Not;
+    let Number::Is(n) = decimal(&w[0..star]) else {
+        return bad(bytes);
     };
     let from = star + 1;
-    put(buf, at, n, two_digits(&w[from..]))
+    more(bytes, n, octet(&w[from..]))
 }
 
-fn item(case: Case, w: &[u8], message: &mut [u8], dest: &mut [u8]) -> Case {
-    let parts = case.parts;
-    match parts {
-        NEITHER => case.with_number(signed(w)),
-        OF => {
-            let at = case.message;
-            case.with_message(row(w, message, at))
-        }
-        UNREAD => case,
-        _ => {
-            let at = case.room;
-            case.with_room(row(w, dest, at))
-        }
+// One past the most is counted, and not kept.
+fn with(numbers: [usize; 4], at: usize, n: usize) -> [usize; 4] {
+    let mut out = numbers;
+    if at < 4 {
+        out[at] = n;
     }
+    out
 }
 
-fn word(case: Case, w: &[u8], message: &mut [u8], dest: &mut [u8]) -> Case {
-    match words::which(w, b"of on") {
-        0 => case.of(),
-        1 => case.on(),
-        _ => item(case, w, message, dest),
-    }
-}
-
-/// The line's case, from `from` on; its bytes go to the message and to the buffer.
-pub(crate) fn read(
-    line: &[u8],
-    from: usize,
-    room: usize,
-    message: &mut [u8],
-    dest: &mut [u8],
-) -> Case {
-    let mut case = Case::new(room);
+// Up to the first word that is no number.
+fn numbers(line: &[u8], from: usize) -> Counted {
+    let mut numbers = [0usize; 4];
+    let mut count = 0;
     let mut at = from;
     while at < line.len() {
         let end = words::find(line, at, b' ');
-        case = word(case, &line[at..end], message, dest);
+        let Number::Is(n) = decimal(&line[at..end]) else {
+            return Counted { at, numbers, count };
+        };
+        let next = with(numbers, count, n);
+        numbers = next;
+        count += 1;
         at = end + 1;
     }
-    case
+    Counted { at, numbers, count }
+}
+
+// Up to the first word that is no row of bytes.
+fn rows(line: &[u8], from: usize, parts: usize) -> Span {
+    let mut bytes = Bytes {
+        all: [0; 640],
+        len: 0,
+    };
+    let mut at = from;
+    while at < line.len() {
+        let end = words::find(line, at, b' ');
+        let next = row(bytes, &line[at..end]);
+        if !next.good {
+            return Span { parts, at, bytes };
+        }
+        bytes = next.bytes;
+        at = end + 1;
+    }
+    Span { parts, at, bytes }
+}
+
+// The word and the bytes after it; or the bytes that stand.
+fn part(line: &[u8], from: usize, word: &[u8], parts: usize, bytes: Bytes) -> Span {
+    if from < line.len() {
+        let end = words::find(line, from, b' ');
+        if words::same(&line[from..end], word) {
+            return rows(line, end + 1, parts);
+        }
+    }
+    Span {
+        parts: 0,
+        at: from,
+        bytes,
+    }
+}
+
+/// The line's case, from `from` on, with the buffer that stands.
+pub(crate) fn read(line: &[u8], from: usize, stands: Bytes) -> Case {
+    let n = numbers(line, from);
+    let none = Bytes {
+        all: [0; 640],
+        len: 0,
+    };
+    let m = part(line, n.at, b"of", 1, none);
+    let d = part(line, m.at, b"on", 2, stands);
+    let parts = if d.at < line.len() {
+        UNREAD
+    } else {
+        m.parts % 2 + d.parts % 4
+    };
+    let numbers = n.numbers;
+    let message = m.bytes;
+    let buffer = d.bytes;
+    Case {
+        parts,
+        numbers,
+        count: n.count,
+        message,
+        buffer,
+    }
+}
+
+/// The first byte; 0 if there is none.
+pub(crate) fn first(m: &[u8]) -> u8 {
+    if m.len() == 0 {
+        return 0;
+    }
+    m[0]
 }

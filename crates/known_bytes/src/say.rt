@@ -20,24 +20,19 @@ pub(crate) fn end() {
     text(b"\n");
 }
 
-/// An answer's name, by its number.
-pub(crate) fn answer(number: usize) {
+/// A word of the answers. One list, since a check's time goes with the byte strings that are written out.
+pub(crate) fn word(k: usize) {
     words::show(
-        b"Done|EmptyFrame|InvalidFrame|TargetBufTooSmall|DestBufTooSmall|TooLong|BadState|BadLength|BadRecord|Stale|Ahead|NoRoom|BeyondClose|Conflict|More|Open|Missing|Complete|Differs",
-        number,
+        b"TooLong|DestBufTooSmall|BadState|EmptyFrame|InvalidFrame |TargetBufTooSmall|More|Accepted|AddSingle |\
+        ModifyFromStartAndSkip |ModifyFromStartAndPushAndSkip |NoData|DataStart|DataComplete|DataContinue |\
+        Idle|Grab |GrabChain |place | code | full| count | skip|frame |, parsed |, consumed |size |, | |; holds|: |cannot read line | -|*",
+        k,
     );
 }
 
-/// An answer and the number that it carries.
-pub(crate) fn numbered(name: usize, n: usize) {
-    answer(name);
-    text(b" ");
-    number(n);
-}
-
-/// A name of the words, and a number.
-pub(crate) fn named(name: &[u8], n: usize) {
-    text(name);
+/// A word and a number.
+pub(crate) fn named(k: usize, n: usize) {
+    word(k);
     number(n);
 }
 
@@ -59,18 +54,18 @@ fn same(s: &[u8], from: usize) -> usize
 
 // A byte, or so many of it in a row.
 fn row(b: u8, n: usize) {
-    text(b" ");
+    word(words::SPACE);
     if 1 < n {
         number(n);
-        text(b"*");
+        word(words::TIMES);
     }
     byte(b);
 }
 
-/// The bytes in hexadecimal, a row of equal ones as its length and the byte; `-` for none.
-pub(crate) fn bytes(s: &[u8]) {
+// The bytes in hexadecimal, a row of equal ones as its length and the byte; `-` for none.
+fn bytes(s: &[u8]) {
     if s.len() == 0 {
-        text(b" -");
+        word(words::NONE);
     }
     let mut i = 0;
     while i < s.len() {
@@ -81,6 +76,6 @@ pub(crate) fn bytes(s: &[u8]) {
 }
 
 pub(crate) fn holds(s: &[u8]) {
-    text(b"; holds");
+    word(words::HOLDS);
     bytes(s);
 }

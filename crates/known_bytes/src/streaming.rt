@@ -1,13 +1,8 @@
 //! The encoder in pieces: it and its buffer stay from line to line.
 use crate::alone;
-use crate::held::Held;
-use crate::held::Ran;
-use crate::read::Case;
-use crate::read::NEITHER;
-use crate::read::OF;
-use crate::read::ON;
 use crate::say;
 use crate::words;
+use enc::state::EncoderState;
 use enc::stream::Accepted;
 use enc::stream::Encoder;
 use enc::stream::Finished;
@@ -17,101 +12,83 @@ fn shown(e: Encoder) {
     let state = e.state;
     alone::shown(state);
     if e.full {
-        say::text(b" full");
+        say::word(words::FULL);
     }
-    say::named(b" count ", e.count);
+    say::named(words::COUNT, e.count);
 }
 
-fn set(held: Held, case: Case) -> Ran {
-    if !case.sets(4) {
-        return held.unknown();
-    }
-    if 255 < case.numbers[1] {
-        return held.unknown();
-    }
-    let full = case.numbers[2];
+fn set(n: &[usize; 4]) -> Encoder {
+    let state = EncoderState {
+        place: n[0],
+        code: (n[1] % 256) as u8,
+    };
     let encoder = Encoder {
-        state: alone::state(case),
-        full: full != 0,
-        count: case.numbers[3],
+        state,
+        full: n[2] != 0,
+        count: n[3],
     };
     shown(encoder);
-    held.with_encoder(encoder)
+    encoder
 }
 
-fn start(held: Held, case: Case, dest: &[u8]) -> Ran {
-    if !case.has(0, ON) {
-        return held.unknown();
-    }
+fn start(e: Encoder, dest: &[u8]) -> Encoder {
     let Started::Ready(encoder) = Encoder::start(dest) else {
-        say::answer(words::DEST_BUF_TOO_SMALL);
-        return held.known();
+        say::word(words::DEST_BUF_TOO_SMALL);
+        return e;
     };
     shown(encoder);
-    held.with_encoder(encoder)
+    encoder
 }
 
 fn answer(found: Accepted) {
     match found {
         Accepted::Accepted => {
-            say::text(b"Accepted");
+            say::word(words::ACCEPTED);
         }
         Accepted::BadState => {
-            say::answer(words::BAD_STATE);
+            say::word(words::BAD_STATE);
         }
         Accepted::TooLong => {
-            say::answer(words::TOO_LONG);
+            say::word(words::TOO_LONG);
         }
         Accepted::DestBufTooSmall => {
-            say::answer(words::DEST_BUF_TOO_SMALL);
+            say::word(words::DEST_BUF_TOO_SMALL);
         }
     }
 }
 
-fn push(held: Held, case: Case, piece: &[u8], dest: &mut [u8]) -> Ran {
-    if !case.has(0, OF) {
-        return held.unknown();
-    }
-    let e = held.encoder;
+fn push(e: Encoder, piece: &[u8], dest: &mut [u8]) -> Encoder {
     let pushed = e.push(dest, piece);
     let found = pushed.answer;
     let next = pushed.next;
     answer(found);
-    say::text(b", ");
+    say::word(words::COMMA);
     shown(next);
     say::holds(dest);
-    held.with_encoder(next)
+    next
 }
 
-fn finish(held: Held, case: Case, dest: &mut [u8]) -> Ran {
-    if !case.has(0, NEITHER) {
-        return held.unknown();
-    }
-    let e = held.encoder;
+fn finish(e: Encoder, dest: &mut [u8]) -> Encoder {
     let found = e.finalize(dest);
     match found {
         Finished::Length(n) => {
             say::number(n);
         }
         Finished::BadState => {
-            say::answer(words::BAD_STATE);
+            say::word(words::BAD_STATE);
         }
     }
     say::holds(dest);
-    held.known()
+    e
 }
 
-/// `Encoder PLACE CODE FULL COUNT`, an encoder of those numbers, also with `on BUFFER`; `Encoder::start on BUFFER`,
-/// `Encoder::push of PIECE`, `Encoder::finalize`.
-pub(crate) fn run(name: &[u8], case: Case, held: Held, m: &[u8], dest: &mut [u8]) -> Ran {
-    match words::which(
-        name,
-        b"Encoder Encoder::start Encoder::push Encoder::finalize",
-    ) {
-        0 => set(held, case),
-        1 => start(held, case, dest),
-        2 => push(held, case, m, dest),
-        3 => finish(held, case, dest),
-        _ => held.unknown(),
+/// `Encoder::start on BUFFER`, `Encoder::push of PIECE`, `Encoder::finalize`; and an encoder of given numbers,
+/// `Encoder PLACE CODE FULL COUNT`, also with `on BUFFER`.
+pub(crate) fn run(k: usize, n: &[usize; 4], e: Encoder, m: &[u8], dest: &mut [u8]) -> Encoder {
+    match k {
+        0 => start(e, dest),
+        1 => push(e, m, dest),
+        2 => finish(e, dest),
+        _ => set(n),
     }
 }

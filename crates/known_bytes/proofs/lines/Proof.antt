@@ -2,15 +2,14 @@
 use Prim.Native.Nat.{_+_, _-_, _≤_}
 use lib.ListN.{length}
 use borrow.Author.Needs.{needs}
-use mathlib.Core.Path.{_≡_}
 use Rattle.known_bytes.proofs.lines.Statement.{statement}
 use Rattle.known_bytes.proofs.lines.Tie as tie
 
 abbrev Inv-loop : tie.InvT-loop
-Inv-loop text message₀ dest₀ buffer₀ held₀ number₀ at₀ message dest buffer held number at = (number ≤ at) × ((length message ≡ length message₀) × ((length dest ≡ length dest₀) × (length buffer ≡ length buffer₀)))
+Inv-loop text held₀ buffer₀ number₀ at₀ held buffer number at = number ≤ at
 
 abbrev μ-loop : tie.MeasureT-loop
-μ-loop text message₀ dest₀ buffer₀ held₀ number₀ at₀ message dest buffer held number at = length text + 1 - at
+μ-loop text held₀ buffer₀ number₀ at₀ held buffer number at = length text + 1 - at
 
 start-requires : tie.Need-start-requires Inv-loop μ-loop
 start-requires c κs = search needs
@@ -39,20 +38,14 @@ part-run-end c = search needs
 run-requires : tie.Need-run-requires Inv-loop μ-loop
 run-requires c κs = search needs
 
+end-requires : tie.Need-end-requires Inv-loop μ-loop
+end-requires c κs = search needs
+
 loop-less : tie.Need-loop-less Inv-loop μ-loop
 loop-less c = search needs
 
 loop-again : tie.Need-loop-again Inv-loop μ-loop
 loop-again c = search needs
-
-same-length : tie.Need-same-length Inv-loop μ-loop
-same-length c = search needs
-
-same-length-2 : tie.Need-same-length-2 Inv-loop μ-loop
-same-length-2 c = search needs
-
-same-length-3 : tie.Need-same-length-3 Inv-loop μ-loop
-same-length-3 c = search needs
 
 returns : tie.Need-returns Inv-loop μ-loop
 returns c = search needs
@@ -72,9 +65,7 @@ lines-spec =
     part-run-start
     part-run-end
     run-requires
+    end-requires
     loop-less
     loop-again
-    same-length
-    same-length-2
-    same-length-3
     returns)

@@ -1,9 +1,9 @@
--- `read::unsigned` meets its contract. Assumes nothing.
+-- `read::decimal` meets its contract. Assumes nothing.
 use Prim.Native.Nat.{_-_, _≤_}
 use lib.ListN.{length}
 use borrow.Author.Needs.{needs}
-use Rattle.known_bytes.proofs.read.unsigned.Statement.{statement}
-use Rattle.known_bytes.proofs.read.unsigned.Tie as tie
+use Rattle.known_bytes.proofs.read.decimal.Statement.{statement}
+use Rattle.known_bytes.proofs.read.decimal.Tie as tie
 
 abbrev Inv-loop : tie.InvT-loop
 Inv-loop w n₀ i₀ n i = i ≤ length w
@@ -44,8 +44,8 @@ loop-again c = search needs
 returns-3 : tie.Need-returns-3 Inv-loop μ-loop
 returns-3 c = search needs
 
-pub unsigned-spec : {M : Type 1} → statement M
-unsigned-spec =
+pub decimal-spec : {M : Type 1} → statement M
+decimal-spec =
     tie.close
     (tie.spec
     Inv-loop

@@ -1,15 +1,15 @@
--- `words::which` meets its contract. Assumes nothing.
+-- `words::call` meets its contract. Assumes nothing.
 use Prim.Native.Nat.{_+_, _-_, _≤_}
 use lib.ListN.{length}
 use borrow.Author.Needs.{needs}
-use Rattle.known_bytes.proofs.words.which.Statement.{statement}
-use Rattle.known_bytes.proofs.words.which.Tie as tie
+use Rattle.known_batches.proofs.words.call.Statement.{statement}
+use Rattle.known_batches.proofs.words.call.Tie as tie
 
 abbrev Inv-loop : tie.InvT-loop
-Inv-loop word list k₀ at₀ k at = k ≤ at
+Inv-loop name count parts list k₀ at₀ k at = k ≤ at
 
 abbrev μ-loop : tie.MeasureT-loop
-μ-loop word list k₀ at₀ k at = length list + 1 - at
+μ-loop name count parts list k₀ at₀ k at = length list + 1 - at
 
 loop-holds : tie.Need-loop-holds Inv-loop μ-loop
 loop-holds c = search needs
@@ -17,17 +17,17 @@ loop-holds c = search needs
 find-requires : tie.Need-find-requires Inv-loop μ-loop
 find-requires c κs = search needs
 
-sub-same : tie.Need-sub-same Inv-loop μ-loop
-sub-same c = search needs
+sub-fits : tie.Need-sub-fits Inv-loop μ-loop
+sub-fits c = search needs
 
-part-same-start : tie.Need-part-same-start Inv-loop μ-loop
-part-same-start c = search needs
+part-fits-start : tie.Need-part-fits-start Inv-loop μ-loop
+part-fits-start c = search needs
 
-part-same-end : tie.Need-part-same-end Inv-loop μ-loop
-part-same-end c = search needs
+part-fits-end : tie.Need-part-fits-end Inv-loop μ-loop
+part-fits-end c = search needs
 
-same-requires : tie.Need-same-requires Inv-loop μ-loop
-same-requires c κs = search needs
+fits-requires : tie.Need-fits-requires Inv-loop μ-loop
+fits-requires c κs = search needs
 
 returns : tie.Need-returns Inv-loop μ-loop
 returns c = search needs
@@ -47,18 +47,18 @@ loop-again c = search needs
 returns-2 : tie.Need-returns-2 Inv-loop μ-loop
 returns-2 c = search needs
 
-pub which-spec : {M : Type 1} → statement M
-which-spec =
+pub call-spec : {M : Type 1} → statement M
+call-spec =
     tie.close
     (tie.spec
     Inv-loop
     μ-loop
     loop-holds
     find-requires
-    sub-same
-    part-same-start
-    part-same-end
-    same-requires
+    sub-fits
+    part-fits-start
+    part-fits-end
+    fits-requires
     returns
     add-k
     add-at
