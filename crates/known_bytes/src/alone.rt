@@ -1,84 +1,76 @@
 //! EncoderState alone: what a byte asks of the output, and the state after it.
 use crate::say;
+use crate::words;
 use enc::state::EncoderState;
 use enc::state::PushResult;
 use enc::state::StateFinished;
 
-fn shown(s: EncoderState) {
-    say::text(b"place ");
-    say::number(s.place);
-    say::text(b" code ");
-    say::number(s.code as usize);
+pub(crate) fn shown(s: EncoderState) {
+    say::named(words::PLACE, s.place);
+    say::named(words::CODE, s.code as usize);
+}
+
+// Where a code goes, and the code.
+fn modify(place: usize, code: u8) {
+    say::number(place);
+    say::word(words::SPACE);
+    say::byte(code);
 }
 
 fn asked(result: PushResult) {
     match result {
         PushResult::AddSingle(b) => {
-            say::text(b"AddSingle ");
+            say::word(words::ADD_SINGLE);
             say::byte(b);
         }
         PushResult::ModifyFromStartAndSkip { place, code } => {
-            say::text(b"ModifyFromStartAndSkip ");
-            say::number(place);
-            say::text(b" ");
-            say::byte(code);
+            say::word(words::MODIFY_AND_SKIP);
+            modify(place, code);
         }
         PushResult::ModifyFromStartAndPushAndSkip { place, code, byte } => {
-            say::text(b"ModifyFromStartAndPushAndSkip ");
-            say::number(place);
-            say::text(b" ");
-            say::byte(code);
-            say::text(b" ");
+            say::word(words::MODIFY_PUSH_AND_SKIP);
+            modify(place, code);
+            say::word(words::SPACE);
             say::byte(byte);
         }
         PushResult::BadState => {
-            say::text(b"BadState");
+            say::word(words::BAD_STATE);
         }
     }
 }
 
 fn push(s: EncoderState, b: u8) {
-    shown(s);
-    say::text(b" push ");
-    say::byte(b);
-    say::text(b": ");
     let pushed = s.push(b);
     let result = pushed.result;
+    let next = pushed.next;
     asked(result);
-    say::text(b", ");
-    shown(pushed.next);
-    say::end();
+    say::word(words::COMMA);
+    shown(next);
 }
 
 fn finish(s: EncoderState) {
-    shown(s);
-    say::text(b" finalize: ");
     let found = s.finalize();
     match found {
         StateFinished::Modify { place, code } => {
-            say::number(place);
-            say::text(b" ");
-            say::byte(code);
+            modify(place, code);
         }
         StateFinished::BadState => {
-            say::text(b"BadState");
+            say::word(words::BAD_STATE);
         }
     }
-    say::end();
 }
 
-fn at(place: usize, code: u8) -> EncoderState {
-    EncoderState { place, code }
-}
-
-pub(crate) fn run() {
-    push(EncoderState::new(), 0x11);
-    push(at(0, 2), 0x00);
-    push(at(7, EncoderState::RUN_LIMIT), 0x22);
-    push(at(7, 0), 0x22);
-    push(at(7, 255), 0x22);
-    push(at(18_446_744_073_709_551_360, 1), 0x00);
-    push(at(18_446_744_073_709_551_361, 1), 0x00);
-    finish(at(7, 2));
-    finish(at(7, 255));
+/// `EncoderState::new`, `EncoderState::push PLACE CODE of BYTE`, `EncoderState::finalize PLACE CODE`.
+pub(crate) fn run(k: usize, place: usize, code: u8, byte: u8) {
+    match k {
+        0 => {
+            shown(EncoderState::new());
+        }
+        1 => {
+            push(EncoderState { place, code }, byte);
+        }
+        _ => {
+            finish(EncoderState { place, code });
+        }
+    }
 }

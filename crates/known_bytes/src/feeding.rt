@@ -1,5 +1,8 @@
-//! The decoder in pieces: each line has the decoder and the piece; the answer; the decoder and the buffer after it.
+//! The decoder in pieces: it and its buffer stay from line to line.
+use crate::decoding;
+use crate::read;
 use crate::say;
+use crate::words;
 use dec::state::DecodeResult;
 use dec::state::DecoderState;
 use dec::stream::CobsDecoder;
@@ -9,175 +12,153 @@ use dec::stream::Pushed;
 fn state(s: DecoderState) {
     match s {
         DecoderState::Idle => {
-            say::text(b"Idle");
+            say::word(words::IDLE);
         }
         DecoderState::Grab(n) => {
-            say::text(b"Grab ");
-            say::number(n as usize);
+            say::named(words::GRAB, n as usize);
         }
         DecoderState::GrabChain(n) => {
-            say::text(b"GrabChain ");
-            say::number(n as usize);
+            say::named(words::GRAB_CHAIN, n as usize);
         }
     }
 }
 
 fn shown(d: CobsDecoder) {
     let s = d.state;
-    say::text(b"place ");
-    say::number(d.place);
+    say::named(words::PLACE, d.place);
     if d.skip {
-        say::text(b" skip");
+        say::word(words::SKIP);
     }
-    say::text(b" ");
+    say::word(words::SPACE);
     state(s);
 }
 
-fn counted(words: &[u8], first: usize, and: &[u8], second: usize) {
-    say::text(words);
-    say::number(first);
-    say::text(and);
-    say::number(second);
+// A decoder at its start, in that state.
+fn at_start(state: DecoderState) -> CobsDecoder {
+    CobsDecoder {
+        place: 0,
+        skip: false,
+        state,
+    }
+}
+
+fn result(found: DecodeResult) {
+    match found {
+        DecodeResult::NoData => {
+            say::word(words::NO_DATA);
+        }
+        DecodeResult::DataStart => {
+            say::word(words::DATA_START);
+        }
+        DecodeResult::DataComplete => {
+            say::word(words::DATA_COMPLETE);
+        }
+        DecodeResult::DataContinue(b) => {
+            say::word(words::DATA_CONTINUE);
+            say::byte(b);
+        }
+        DecodeResult::InvalidFrame => {
+            say::named(words::INVALID_FRAME, 0);
+        }
+    }
+}
+
+fn step(s: DecoderState, byte: u8) -> DecoderState {
+    let stepped = s.step(byte);
+    let found = stepped.result;
+    let after = stepped.state;
+    result(found);
+    say::word(words::COMMA);
+    state(after);
+    after
+}
+
+fn answer(found: PushAnswer) {
+    match found {
+        PushAnswer::More => {
+            say::word(words::MORE);
+        }
+        PushAnswer::Frame { size, parsed } => {
+            decoding::frame(size, parsed);
+        }
+        PushAnswer::InvalidFrame { decoded, consumed } => {
+            say::named(words::INVALID_FRAME, decoded);
+            say::named(words::CONSUMED, consumed);
+        }
+        PushAnswer::TargetBufTooSmall { consumed } => {
+            say::word(words::TARGET_BUF_TOO_SMALL);
+            say::named(words::CONSUMED, consumed);
+        }
+        PushAnswer::BadState => {
+            say::word(words::BAD_STATE);
+        }
+    }
 }
 
 fn answered(pushed: Pushed, dest: &[u8]) -> CobsDecoder {
-    let answer = pushed.answer;
+    let found = pushed.answer;
     let next = pushed.next;
-    match answer {
-        PushAnswer::More => {
-            say::text(b"More");
-        }
-        PushAnswer::Frame { size, parsed } => {
-            counted(b"frame ", size, b", parsed ", parsed);
-        }
-        PushAnswer::InvalidFrame { decoded, consumed } => {
-            counted(b"InvalidFrame ", decoded, b", consumed ", consumed);
-        }
-        PushAnswer::TargetBufTooSmall { consumed } => {
-            say::text(b"TargetBufTooSmall, consumed ");
-            say::number(consumed);
-        }
-        PushAnswer::BadState => {
-            say::text(b"BadState");
-        }
-    }
-    say::text(b", ");
+    answer(found);
+    say::word(words::COMMA);
     shown(next);
-    say::text(b"; holds");
-    say::bytes(dest);
-    say::end();
+    say::holds(dest);
     next
 }
 
-fn push(d: CobsDecoder, dest: &mut [u8], piece: &[u8]) -> CobsDecoder {
-    shown(d);
-    say::text(b" push");
-    say::bytes(piece);
-    say::text(b": ");
+fn push(d: CobsDecoder, piece: &[u8], dest: &mut [u8]) -> CobsDecoder {
     let pushed = d.push(dest, piece);
     answered(pushed, dest)
 }
 
-fn feed(d: CobsDecoder, dest: &mut [u8], byte: u8) -> CobsDecoder {
-    shown(d);
-    say::text(b" feed ");
-    say::byte(byte);
-    say::text(b": ");
+fn feed(d: CobsDecoder, byte: u8, dest: &mut [u8]) -> CobsDecoder {
     let pushed = d.feed(dest, byte);
     answered(pushed, dest)
 }
 
 fn decoder(place: usize, skip: bool, state: DecoderState) -> CobsDecoder {
-    CobsDecoder { place, skip, state }
+    let d = CobsDecoder { place, skip, state };
+    shown(d);
+    d
 }
 
-// 01's example into two bytes: the overfull frame, then the rest.
-fn overfull() {
-    let mut d = [0x55; 2];
-    let a = push(
-        CobsDecoder::new(),
-        &mut d,
-        b"\x02\x11\x02\x22\x00\x02\x33\x00",
-    );
-    push(a, &mut d, b"\x00\x02\x33\x00");
+fn new() -> CobsDecoder {
+    let d = CobsDecoder::new();
+    shown(d);
+    d
 }
 
-// One frame in several cuttings; an early zero, after which the next byte starts fresh.
-fn cuttings() {
-    let mut d = [0x55; 4];
-    let a = push(CobsDecoder::new(), &mut d, b"\x03\x11\x22\x02\x33\x00");
-    let b = push(a, &mut d, b"\x03");
-    let c = push(b, &mut d, b"");
-    let e = push(c, &mut d, b"\x44\x22\x02");
-    push(e, &mut d, b"\x33\x00\x02");
-    let f = push(CobsDecoder::new(), &mut d, b"\x00\x03\x11\x00\x02\x22\x00");
-    let g = feed(f, &mut d, 0x02);
-    let h = feed(g, &mut d, 0x22);
-    feed(h, &mut d, 0x00);
-}
-
-// States that no call reaches, and states that are none.
-fn states() {
-    let mut d = [0x55; 255];
-    let mut p = [7u8; 256];
-    p[255] = 0;
-    push(decoder(0, false, DecoderState::Grab(255)), &mut d, &p);
-    push(decoder(0, false, DecoderState::GrabChain(7)), &mut d, &p);
-    let mut e = [0x55; 2];
-    push(decoder(3, false, DecoderState::Grab(1)), &mut e, b"\x00");
-    push(decoder(1, false, DecoderState::Idle), &mut e, b"\x00");
-    push(decoder(0, true, DecoderState::Grab(1)), &mut e, b"\x00");
-    feed(decoder(1, true, DecoderState::Idle), &mut e, 0x00);
-    feed(decoder(2, false, DecoderState::Grab(1)), &mut e, 0x11);
-}
-
-fn step(s: DecoderState, byte: u8) {
+fn named(s: DecoderState) -> CobsDecoder {
     state(s);
-    say::text(b" step ");
-    say::byte(byte);
-    say::text(b": ");
-    let stepped = s.step(byte);
-    let result = stepped.result;
-    let after = stepped.state;
-    match result {
-        DecodeResult::NoData => {
-            say::text(b"NoData");
-        }
-        DecodeResult::DataStart => {
-            say::text(b"DataStart");
-        }
-        DecodeResult::DataComplete => {
-            say::text(b"DataComplete");
-        }
-        DecodeResult::DataContinue(b) => {
-            say::text(b"DataContinue ");
-            say::byte(b);
-        }
-        DecodeResult::InvalidFrame => {
-            say::text(b"InvalidFrame 0");
-        }
+    at_start(s)
+}
+
+// A fresh one; one at its start in the state that the line names; or one of given numbers in the state that stands.
+fn make(k: usize, n: &[usize; 4], stands: DecoderState) -> CobsDecoder {
+    let first = n[0];
+    match k {
+        0 => new(),
+        1 => named(DecoderState::new()),
+        2 => named(DecoderState::Grab((first % 256) as u8)),
+        3 => named(DecoderState::GrabChain((first % 256) as u8)),
+        _ => decoder(first, n[1] != 0, stands),
     }
-    say::text(b", ");
-    state(after);
-    say::end();
 }
 
-fn alone() {
-    step(DecoderState::new(), 0x00);
-    step(DecoderState::new(), 0x03);
-    step(DecoderState::new(), 0xFF);
-    step(DecoderState::Grab(2), 0x11);
-    step(DecoderState::Grab(1), 0x00);
-    step(DecoderState::Grab(0), 0x02);
-    step(DecoderState::Grab(0), 0x00);
-    step(DecoderState::GrabChain(0), 0x02);
-    step(DecoderState::GrabChain(0), 0xFF);
-    step(DecoderState::GrabChain(1), 0x00);
-}
-
-pub(crate) fn run() {
-    overfull();
-    cuttings();
-    states();
-    alone();
+/// `CobsDecoder::push of PIECE`, `CobsDecoder::feed of BYTE`, `DecoderState::step of BYTE`; `CobsDecoder::new on BUFFER`,
+/// `DecoderState::new`, `DecoderState::Grab LEFT`, `DecoderState::GrabChain LEFT`; and a decoder of given numbers in the
+/// state that stands, `CobsDecoder PLACE SKIP`, also with `on BUFFER`.
+pub(crate) fn run(
+    k: usize,
+    n: &[usize; 4],
+    d: CobsDecoder,
+    m: &[u8],
+    dest: &mut [u8],
+) -> CobsDecoder {
+    let s = d.state;
+    match k {
+        0 => push(d, m, dest),
+        1 => feed(d, read::first(m), dest),
+        2 => at_start(step(s, read::first(m))),
+        _ => make(k - 3, n, s),
+    }
 }

@@ -1,23 +1,59 @@
-//! 01's known bytes, run by the compiled code: a line for each example, held to the stored output.
+//! 01's known bytes of the code, run by the compiled code. Each line of the input is a call; it is written with the answer
+//! after it, and the whole is held to the stored output. A line that starts with `#` is a heading.
 mod alone;
-mod batches;
+mod cases;
 mod decoding;
 mod encoding;
 mod feeding;
 mod lengths;
-mod records;
+mod read;
 mod say;
 mod streaming;
-mod wires;
+mod words;
+
+use cases::Held;
+use dec::stream::CobsDecoder;
+use enc::state::EncoderState;
+use enc::stream::Encoder;
+use libc::STDIN_FILENO;
+use read::Bytes;
+
+fn start() -> Held {
+    let encoder = Encoder {
+        state: EncoderState::new(),
+        full: false,
+        count: 0,
+    };
+    let decoder = CobsDecoder::new();
+    Held { encoder, decoder }
+}
+
+fn lines(text: &[u8]) {
+    let mut held = start();
+    let mut buffer = Bytes {
+        all: [0; 640],
+        len: 0,
+    };
+    let mut number = 0;
+    let mut at = 0;
+    while at < text.len() {
+        let from = at;
+        let end = words::find(text, from, b'\n');
+        at = end + 1;
+        number += 1;
+        let after = cases::run(&text[from..end], number, held, buffer);
+        say::end();
+        held = after.held;
+        buffer = after.buffer;
+    }
+}
 
 fn main() {
-    lengths::run();
-    encoding::run();
-    alone::run();
-    streaming::run();
-    decoding::run();
-    feeding::run();
-    records::run();
-    batches::run();
-    wires::run();
+    let mut text = io::large_buffer();
+    let n = io::read_full(STDIN_FILENO, &mut text);
+    if n == text.len() {
+        say::text(b"the input is too long\n");
+        return;
+    }
+    lines(&text[..n]);
 }

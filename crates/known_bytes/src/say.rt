@@ -1,10 +1,11 @@
-//! What a line is made of.
+//! What a line of the output is made of.
+use crate::words;
 use libc::STDOUT_FILENO;
 ghost use Prim.Native.Nat.{_+_, _≤_, _<_};
 ghost use lib.ListN.{length};
 
-pub(crate) fn text(words: &[u8]) {
-    io::write_all(STDOUT_FILENO, words);
+pub(crate) fn text(bytes: &[u8]) {
+    io::write_all(STDOUT_FILENO, bytes);
 }
 
 pub(crate) fn number(n: usize) {
@@ -17,6 +18,22 @@ pub(crate) fn byte(b: u8) {
 
 pub(crate) fn end() {
     text(b"\n");
+}
+
+/// A word of the answers. One list, since a check's time goes with the byte strings that are written out.
+pub(crate) fn word(k: usize) {
+    words::show(
+        b"TooLong|DestBufTooSmall|BadState|EmptyFrame|InvalidFrame |TargetBufTooSmall|More|Accepted|AddSingle |\
+        ModifyFromStartAndSkip |ModifyFromStartAndPushAndSkip |NoData|DataStart|DataComplete|DataContinue |\
+        Idle|Grab |GrabChain |place | code | full| count | skip|frame |, parsed |, consumed |size |, | |; holds|: |cannot read line | -|*",
+        k,
+    );
+}
+
+/// A word and a number.
+pub(crate) fn named(k: usize, n: usize) {
+    word(k);
+    number(n);
 }
 
 // How many bytes from `from` on are the same.
@@ -37,18 +54,18 @@ fn same(s: &[u8], from: usize) -> usize
 
 // A byte, or so many of it in a row.
 fn row(b: u8, n: usize) {
-    text(b" ");
+    word(words::SPACE);
     if 1 < n {
         number(n);
-        text(b"*");
+        word(words::TIMES);
     }
     byte(b);
 }
 
-/// The bytes in hexadecimal, a row of equal ones as its length and the byte; `-` for none.
-pub(crate) fn bytes(s: &[u8]) {
+// The bytes in hexadecimal, a row of equal ones as its length and the byte; `-` for none.
+fn bytes(s: &[u8]) {
     if s.len() == 0 {
-        text(b" -");
+        word(words::NONE);
     }
     let mut i = 0;
     while i < s.len() {
@@ -56,4 +73,9 @@ pub(crate) fn bytes(s: &[u8]) {
         row(s[i], n);
         i += n;
     }
+}
+
+pub(crate) fn holds(s: &[u8]) {
+    word(words::HOLDS);
+    bytes(s);
 }

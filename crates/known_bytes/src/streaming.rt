@@ -1,5 +1,7 @@
-//! The encoder in pieces: each line has the encoder, the piece and the room; the answer; the encoder and the buffer after it.
+//! The encoder in pieces: it and its buffer stay from line to line.
+use crate::alone;
 use crate::say;
+use crate::words;
 use enc::state::EncoderState;
 use enc::stream::Accepted;
 use enc::stream::Encoder;
@@ -7,135 +9,86 @@ use enc::stream::Finished;
 use enc::stream::Started;
 
 fn shown(e: Encoder) {
-    say::text(b"place ");
-    say::number(e.state.place);
-    say::text(b" code ");
-    say::number(e.state.code as usize);
+    let state = e.state;
+    alone::shown(state);
     if e.full {
-        say::text(b" full");
+        say::word(words::FULL);
     }
-    say::text(b" count ");
-    say::number(e.count);
+    say::named(words::COUNT, e.count);
 }
 
-fn push(e: Encoder, dest: &mut [u8], piece: &[u8]) -> Encoder {
-    shown(e);
-    say::text(b" push");
-    say::bytes(piece);
-    say::text(b": ");
-    let pushed = e.push(dest, piece);
-    let answer = pushed.answer;
-    let next = pushed.next;
-    match answer {
+fn set(n: &[usize; 4]) -> Encoder {
+    let state = EncoderState {
+        place: n[0],
+        code: (n[1] % 256) as u8,
+    };
+    let encoder = Encoder {
+        state,
+        full: n[2] != 0,
+        count: n[3],
+    };
+    shown(encoder);
+    encoder
+}
+
+fn start(e: Encoder, dest: &[u8]) -> Encoder {
+    let Started::Ready(encoder) = Encoder::start(dest) else {
+        say::word(words::DEST_BUF_TOO_SMALL);
+        return e;
+    };
+    shown(encoder);
+    encoder
+}
+
+fn answer(found: Accepted) {
+    match found {
         Accepted::Accepted => {
-            say::text(b"Accepted");
+            say::word(words::ACCEPTED);
         }
         Accepted::BadState => {
-            say::text(b"BadState");
+            say::word(words::BAD_STATE);
         }
         Accepted::TooLong => {
-            say::text(b"TooLong");
+            say::word(words::TOO_LONG);
         }
         Accepted::DestBufTooSmall => {
-            say::text(b"DestBufTooSmall");
+            say::word(words::DEST_BUF_TOO_SMALL);
         }
     }
-    say::text(b", ");
+}
+
+fn push(e: Encoder, piece: &[u8], dest: &mut [u8]) -> Encoder {
+    let pushed = e.push(dest, piece);
+    let found = pushed.answer;
+    let next = pushed.next;
+    answer(found);
+    say::word(words::COMMA);
     shown(next);
-    say::text(b"; holds");
-    say::bytes(dest);
-    say::end();
+    say::holds(dest);
     next
 }
 
-fn finish(e: Encoder, dest: &mut [u8]) {
-    shown(e);
-    say::text(b" finalize: ");
+fn finish(e: Encoder, dest: &mut [u8]) -> Encoder {
     let found = e.finalize(dest);
     match found {
         Finished::Length(n) => {
             say::number(n);
         }
         Finished::BadState => {
-            say::text(b"BadState");
+            say::word(words::BAD_STATE);
         }
     }
-    say::text(b"; holds");
-    say::bytes(dest);
-    say::end();
-}
-
-fn encoder(place: usize, code: u8, full: bool, count: usize) -> Encoder {
-    let state = EncoderState { place, code };
-    Encoder { state, full, count }
-}
-
-fn start(dest: &[u8]) -> Encoder {
-    say::text(b"start on ");
-    say::number(dest.len());
-    say::text(b": ");
-    let Started::Ready(e) = Encoder::start(dest) else {
-        say::text(b"DestBufTooSmall");
-        say::end();
-        return encoder(0, 1, false, 0);
-    };
-    shown(e);
-    say::end();
+    say::holds(dest);
     e
 }
 
-// 11 22 00 33 in three cuttings.
-fn cuttings() {
-    let mut d = [0x55; 6];
-    let a = push(start(&d), &mut d, b"\x11\x22\x00\x33");
-    finish(a, &mut d);
-    let mut f = [0x55; 6];
-    let b = push(start(&f), &mut f, b"\x11");
-    let c = push(b, &mut f, b"");
-    let g = push(c, &mut f, b"\x22\x00\x33");
-    finish(g, &mut f);
-}
-
-// A full group ends the input: an empty piece changes nothing, and no closing 01 is written.
-fn full_group() {
-    let mut d = [0x55; 258];
-    let a = push(start(&d), &mut d, &[1; 254]);
-    let b = push(a, &mut d, b"");
-    finish(b, &mut d);
-    let c = push(b, &mut d, b"\x00");
-    finish(c, &mut d);
-}
-
-// A refused piece changes neither the encoder nor the buffer, and a shorter one is still taken.
-fn refused() {
-    let mut d = [0x55; 3];
-    let a = push(start(&d), &mut d, b"\x11\x22\x33");
-    let b = push(a, &mut d, b"\x11\x22");
-    let c = push(b, &mut d, b"\x00");
-    finish(c, &mut d);
-    start(&[]);
-}
-
-// States that no call reaches, and states that are none.
-fn states() {
-    let mut none: [u8; 0] = [];
-    finish(encoder(0, 1, true, 0), &mut none);
-    let mut d = [0x55; 4];
-    finish(encoder(3, 1, true, 0), &mut d);
-    push(encoder(3, 1, true, 0), &mut d, b"");
-    push(encoder(2, 1, false, 1), &mut d, b"\x11");
-    push(encoder(0, 1, false, 1_048_576), &mut d, b"");
-    push(encoder(0, 1, false, 1_048_576), &mut d, b"\x11");
-    push(encoder(0, 1, false, 1_048_577), &mut d, b"");
-    push(encoder(0, 0, false, 0), &mut d, b"");
-    push(encoder(0, 255, false, 0), &mut d, b"");
-    push(encoder(4, 1, false, 0), &mut d, b"");
-    finish(encoder(0, 2, true, 0), &mut d);
-}
-
-pub(crate) fn run() {
-    cuttings();
-    full_group();
-    refused();
-    states();
+/// `Encoder::start on BUFFER`, `Encoder::push of PIECE`, `Encoder::finalize`; and an encoder of given numbers,
+/// `Encoder PLACE CODE FULL COUNT`, also with `on BUFFER`.
+pub(crate) fn run(k: usize, n: &[usize; 4], e: Encoder, m: &[u8], dest: &mut [u8]) -> Encoder {
+    match k {
+        0 => start(e, dest),
+        1 => push(e, m, dest),
+        2 => finish(e, dest),
+        _ => set(n),
+    }
 }

@@ -1,0 +1,63 @@
+-- `read::decimal` meets its contract. Assumes nothing.
+use Prim.Native.Nat.{_-_, _≤_}
+use lib.ListN.{length}
+use borrow.Author.Needs.{needs}
+use Rattle.known_bytes.proofs.read.decimal.Statement.{statement}
+use Rattle.known_bytes.proofs.read.decimal.Tie as tie
+
+abbrev Inv-loop : tie.InvT-loop
+Inv-loop w n₀ i₀ n i = i ≤ length w
+
+abbrev μ-loop : tie.MeasureT-loop
+μ-loop w n₀ i₀ n i = length w - i
+
+returns : tie.Need-returns Inv-loop μ-loop
+returns c = search needs
+
+loop-holds : tie.Need-loop-holds Inv-loop μ-loop
+loop-holds c = search needs
+
+shared-slice-read-further : tie.Need-shared-slice-read-further Inv-loop μ-loop
+shared-slice-read-further c = search needs
+
+further-requires : tie.Need-further-requires Inv-loop μ-loop
+further-requires c κs = search needs
+
+enum-known-next : tie.Need-enum-known-next Inv-loop μ-loop
+enum-known-next c = search needs
+
+enum-told : tie.Need-enum-told Inv-loop μ-loop
+enum-told c = search needs
+
+returns-2 : tie.Need-returns-2 Inv-loop μ-loop
+returns-2 c = search needs
+
+add-i : tie.Need-add-i Inv-loop μ-loop
+add-i c = search needs
+
+loop-less : tie.Need-loop-less Inv-loop μ-loop
+loop-less c = search needs
+
+loop-again : tie.Need-loop-again Inv-loop μ-loop
+loop-again c = search needs
+
+returns-3 : tie.Need-returns-3 Inv-loop μ-loop
+returns-3 c = search needs
+
+pub decimal-spec : {M : Type 1} → statement M
+decimal-spec =
+    tie.close
+    (tie.spec
+    Inv-loop
+    μ-loop
+    returns
+    loop-holds
+    shared-slice-read-further
+    further-requires
+    enum-known-next
+    enum-told
+    returns-2
+    add-i
+    loop-less
+    loop-again
+    returns-3)

@@ -1,0 +1,159 @@
+//! One line: echoed, read, run by the module that knows its name, and answered on the same line.
+use crate::alone;
+use crate::decoding;
+use crate::encoding;
+use crate::feeding;
+use crate::lengths;
+use crate::read;
+use crate::read::Bytes;
+use crate::read::Case;
+use crate::say;
+use crate::streaming;
+use crate::words;
+use dec::stream::CobsDecoder;
+use enc::stream::Encoder;
+
+// Where each module's calls start in the list.
+const ENCODING: usize = 2;
+
+const DECODING: usize = 7;
+
+const ALONE: usize = 12;
+
+const STREAMING: usize = 15;
+
+const FEEDING: usize = 20;
+
+const UNKNOWN: usize = 29;
+
+// Each name with how many numbers it takes, and its parts: 1 is `of`, 2 is `on`, and 3 is both.
+fn number(name: &[u8], count: usize, parts: usize) -> usize {
+    words::call(
+        name,
+        count,
+        parts,
+        b"max_encoding_overhead10 max_encoding_length10 \
+        encode03 try_encode03 encode_including_sentinels03 try_encode_including_sentinels03 encode_with_sentinel13 \
+        decode03 decode_in_place02 decode_in_place_report02 decode_with_sentinel13 decode_in_place_with_sentinel12 \
+        EncoderState::new00 EncoderState::push21 EncoderState::finalize20 \
+        Encoder::start02 Encoder::push01 Encoder::finalize00 Encoder40 Encoder42 \
+        CobsDecoder::push01 CobsDecoder::feed01 DecoderState::step01 \
+        CobsDecoder::new02 DecoderState::new00 DecoderState::Grab10 DecoderState::GrabChain10 CobsDecoder20 CobsDecoder22",
+    )
+}
+
+/// What stays from line to line beside the buffer: the two streaming states.
+pub(crate) struct Held {
+    pub encoder: Encoder,
+    pub decoder: CobsDecoder,
+}
+
+/// What is held after a line, and the buffer.
+pub(crate) struct After {
+    pub held: Held,
+    pub buffer: Bytes,
+}
+
+// The calls that keep nothing.
+fn once(k: usize, n: &[usize; 4], m: &[u8], dest: &mut [u8]) {
+    let first = n[0];
+    if k < ENCODING {
+        lengths::run(k, first);
+        return;
+    }
+    if ALONE <= k {
+        alone::run(k - ALONE, first, (n[1] % 256) as u8, read::first(m));
+        return;
+    }
+    let sentinel = (first % 256) as u8;
+    if k < DECODING {
+        encoding::run(k - ENCODING, sentinel, m, dest);
+        say::holds(dest);
+        return;
+    }
+    decoding::run(k - DECODING, sentinel, m, dest);
+    say::holds(dest);
+}
+
+// Any call.
+fn answer(k: usize, n: &[usize; 4], held: Held, m: &[u8], dest: &mut [u8]) -> Held {
+    let mut next = held;
+    if k < STREAMING {
+        once(k, n, m, dest);
+        return next;
+    }
+    if k < FEEDING {
+        let encoder = streaming::run(k - STREAMING, n, held.encoder, m, dest);
+        next.encoder = encoder;
+        return next;
+    }
+    let decoder = feeding::run(k - FEEDING, n, held.decoder, m, dest);
+    next.decoder = decoder;
+    next
+}
+
+// The same, on the parts of the arrays that count.
+fn cut(
+    k: usize,
+    n: &[usize; 4],
+    held: Held,
+    m: &[u8],
+    length: usize,
+    dest: &mut [u8],
+    room: usize,
+) -> Held {
+    if m.len() < length {
+        return held;
+    }
+    if dest.len() < room {
+        return held;
+    }
+    answer(k, n, held, &m[0..length], &mut dest[0..room])
+}
+
+fn run_case(k: usize, case: Case, held: Held) -> After {
+    let n = case.numbers;
+    let message = case.message;
+    let buffer = case.buffer;
+    let m = message.all;
+    let mut all = buffer.all;
+    let next = cut(k, &n, held, &m, message.len, &mut all, buffer.len);
+    let left = Bytes {
+        all,
+        len: buffer.len,
+    };
+    After {
+        held: next,
+        buffer: left,
+    }
+}
+
+// The line's case, run.
+fn run_line(line: &[u8], at: usize, held: Held, buffer: Bytes) -> After {
+    say::word(words::COLON);
+    let end = words::find(line, 0, b' ');
+    let case = read::read(line, end + 1, buffer);
+    let k = number(&line[0..end], case.count, case.parts);
+    if k < UNKNOWN {
+        return run_case(k, case, held);
+    }
+    say::named(words::UNREAD, at);
+    After { held, buffer }
+}
+
+// A heading: a line that is empty, or starts with `#`.
+fn is_heading(line: &[u8]) -> bool {
+    if line.len() == 0 {
+        return true;
+    }
+    line[0] == b'#'
+}
+
+/// Writes the line, and the answer after it.
+pub(crate) fn run(line: &[u8], at: usize, held: Held, buffer: Bytes) -> After {
+    say::text(line);
+    if is_heading(line) {
+        return After { held, buffer };
+    }
+    run_line(line, at, held, buffer)
+}
