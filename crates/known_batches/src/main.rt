@@ -1,5 +1,6 @@
-//! 01's records and batches, run by the compiled code. Each line of the input is a call; it is written with the answer
-//! after it, and the whole is held to the stored output. A line that starts with `#` is a heading.
+//! 01's records and batches, run by the compiled code. Each line of the input is a call; it is written with the
+//! answer after it, and the whole is held to the stored output. A line that starts with `#` is a heading; one that cannot
+//! be read is answered so. A number is taken modulo its field's size.
 mod batches;
 mod cases;
 mod read;

@@ -24,7 +24,8 @@ pub(crate) fn end() {
 pub(crate) fn word(k: usize) {
     words::show(
         b"Done|DestBufTooSmall|BadState|BadLength|BadRecord|Stale|Ahead|NoRoom|BeyondClose|Conflict|\
-        InvalidFrame|TargetBufTooSmall|More|Open|Missing|Complete|Differs|Ours|particle |close | index | weight | count | total |\
+        InvalidFrame|TargetBufTooSmall|More|Open|Missing|Complete|Differs|Ours|\
+        particle |close | index | weight | count | total |\
         , written |batch |, slots |, total |, stands |; total |, consumed |place |; |;| |; holds|: |\
         cannot read line | -|*",
         k,

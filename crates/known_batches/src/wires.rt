@@ -12,6 +12,25 @@ pub(crate) struct Held {
     pub buffer: [u8; 32],
 }
 
+// How the batch stands after a frame that was taken.
+fn standing(found: Received) {
+    match found {
+        Received::Open => {
+            say::word(words::OPEN);
+        }
+        Received::Missing(k) => {
+            say::numbered(words::MISSING, k);
+        }
+        Received::Complete => {
+            say::word(words::COMPLETE);
+        }
+        Received::Differs => {
+            say::word(words::DIFFERS);
+        }
+        _ => {}
+    }
+}
+
 fn answer(found: Received) {
     match found {
         Received::More => {
@@ -47,17 +66,8 @@ fn answer(found: Received) {
         Received::Conflict(k) => {
             say::numbered(words::CONFLICT, k);
         }
-        Received::Open => {
-            say::word(words::OPEN);
-        }
-        Received::Missing(k) => {
-            say::numbered(words::MISSING, k);
-        }
-        Received::Complete => {
-            say::word(words::COMPLETE);
-        }
-        Received::Differs => {
-            say::word(words::DIFFERS);
+        _ => {
+            standing(found);
         }
     }
 }

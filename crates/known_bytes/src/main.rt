@@ -1,5 +1,7 @@
-//! 01's known bytes of the code, run by the compiled code. Each line of the input is a call; it is written with the answer
-//! after it, and the whole is held to the stored output. A line that starts with `#` is a heading.
+//! 01's known bytes of the code, run by the compiled code. Each line of the input is a call; it is written with the
+//! answer after it, and the whole is held to the stored output. A line that starts with `#` is a heading; one that cannot
+//! be read is answered so. A number is taken modulo its field's size, and where a call takes
+//! one byte, that is the first.
 mod alone;
 mod cases;
 mod decoding;

@@ -25,7 +25,8 @@ pub(crate) fn word(k: usize) {
     words::show(
         b"TooLong|DestBufTooSmall|BadState|EmptyFrame|InvalidFrame |TargetBufTooSmall|More|Accepted|AddSingle |\
         ModifyFromStartAndSkip |ModifyFromStartAndPushAndSkip |NoData|DataStart|DataComplete|DataContinue |\
-        Idle|Grab |GrabChain |place | code | full| count | skip|frame |, parsed |, consumed |size |, | |; holds|: |cannot read line | -|*",
+        Idle|Grab |GrabChain |place | code | full| count | skip|frame |, parsed |, consumed |size |, | |; holds|\
+        : |cannot read line | -|*",
         k,
     );
 }
