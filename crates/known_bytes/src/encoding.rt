@@ -1,4 +1,5 @@
 //! One-shot encoding: the length or a refusal, and what the buffer then holds.
+use crate::holding;
 use crate::say;
 use crate::words;
 use enc::oneshot::Encoded;
@@ -41,8 +42,12 @@ fn plain(k: usize, m: &[u8], dest: &mut [u8]) -> Encoded {
     }
 }
 
-/// `encode of MESSAGE on BUFFER` and its like, `encode_with_sentinel SENTINEL of MESSAGE on BUFFER`.
+/// `encode of MESSAGE on BUFFER` and its like, `encode_with_sentinel SENTINEL of MESSAGE on BUFFER`, `encode_two CUT of MESSAGE on BUFFER`.
 pub(crate) fn run(k: usize, sentinel: u8, m: &[u8], dest: &mut [u8]) {
+    if k == 5 {
+        holding::run(sentinel as usize, m, dest);
+        return;
+    }
     if k == 4 {
         answer_with(enc::oneshot::encode_with_sentinel(m, dest, sentinel));
         return;

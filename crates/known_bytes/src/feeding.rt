@@ -63,8 +63,9 @@ fn result(found: DecodeResult) {
     }
 }
 
-fn step(s: DecoderState, byte: u8) -> DecoderState {
-    let stepped = s.step(byte);
+// Through `DecoderState::feed`, which takes a reference, and `step` below it.
+fn fed(s: DecoderState, byte: u8) -> DecoderState {
+    let stepped = dec::state::fed(s, byte);
     let found = stepped.result;
     let after = stepped.state;
     result(found);
@@ -144,7 +145,7 @@ fn make(k: usize, n: &[usize; 4], stands: DecoderState) -> CobsDecoder {
     }
 }
 
-/// `CobsDecoder::push of PIECE`, `CobsDecoder::feed of BYTE`, `DecoderState::step of BYTE`; `CobsDecoder::new on BUFFER`,
+/// `CobsDecoder::push of PIECE`, `CobsDecoder::feed of BYTE`, `DecoderState::feed of BYTE`; `CobsDecoder::new on BUFFER`,
 /// `DecoderState::new`, `DecoderState::Grab LEFT`, `DecoderState::GrabChain LEFT`; and a decoder of given numbers in the
 /// state that stands, `CobsDecoder PLACE SKIP`, also with `on BUFFER`.
 pub(crate) fn run(
@@ -158,7 +159,7 @@ pub(crate) fn run(
     match k {
         0 => push(d, m, dest),
         1 => feed(d, read::first(m), dest),
-        2 => at_start(step(s, read::first(m))),
+        2 => at_start(fed(s, read::first(m))),
         _ => make(k - 3, n, s),
     }
 }

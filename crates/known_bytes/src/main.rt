@@ -7,6 +7,7 @@ mod cases;
 mod decoding;
 mod encoding;
 mod feeding;
+mod holding;
 mod lengths;
 mod read;
 mod say;

@@ -26,7 +26,7 @@ pub(crate) fn word(k: usize) {
         b"TooLong|DestBufTooSmall|BadState|EmptyFrame|InvalidFrame |TargetBufTooSmall|More|Accepted|AddSingle |\
         ModifyFromStartAndSkip |ModifyFromStartAndPushAndSkip |NoData|DataStart|DataComplete|DataContinue |\
         Idle|Grab |GrabChain |place | code | full| count | skip|frame |, parsed |, consumed |size |, | |; holds|\
-        : |cannot read line | -|*",
+        : |cannot read line | -|*|Ready",
         k,
     );
 }

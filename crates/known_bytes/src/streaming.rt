@@ -40,7 +40,7 @@ fn start(e: Encoder, dest: &[u8]) -> Encoder {
     encoder
 }
 
-fn answer(found: Accepted) {
+pub(crate) fn answer(found: Accepted) {
     match found {
         Accepted::Accepted => {
             say::word(words::ACCEPTED);
@@ -68,8 +68,7 @@ fn push(e: Encoder, piece: &[u8], dest: &mut [u8]) -> Encoder {
     next
 }
 
-fn finish(e: Encoder, dest: &mut [u8]) -> Encoder {
-    let found = e.finalize(dest);
+pub(crate) fn finished(found: Finished) {
     match found {
         Finished::Length(n) => {
             say::number(n);
@@ -78,6 +77,10 @@ fn finish(e: Encoder, dest: &mut [u8]) -> Encoder {
             say::word(words::BAD_STATE);
         }
     }
+}
+
+fn finish(e: Encoder, dest: &mut [u8]) -> Encoder {
+    finished(e.finalize(dest));
     say::holds(dest);
     e
 }

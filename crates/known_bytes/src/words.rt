@@ -72,6 +72,8 @@ pub(crate) const NONE: usize = 32;
 
 pub(crate) const TIMES: usize = 33;
 
+pub(crate) const READY: usize = 34;
+
 /// Where the byte stands first from `from` on, or the end.
 pub(crate) fn find(s: &[u8], from: usize, byte: u8) -> usize
     requires { ⌜ from ≤ length (now s) ⌝ }
