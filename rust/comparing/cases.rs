@@ -214,12 +214,22 @@ pub fn all(amount: Amount, out: &mut dyn FnMut(Case)) {
 }
 
 /// A few thousand for the stored sample: all shortest ones, random and damaged short ones, and those at which full groups end.
+/// A message and a source in two pieces, with the room that each needs.
+fn in_two(make: &mut Maker, message: &[u8], source: &[u8], cut: usize) {
+    let (of_message, of_source) = (cut.min(message.len()), cut.min(source.len()));
+    make.pieces(Call::EncodePieces, message, encoding(message).len(), &[of_message, message.len() - of_message]);
+    make.pieces(Call::DecodePieces, source, source.len(), &[of_source, source.len() - of_source]);
+}
+
 pub fn sample(out: &mut dyn FnMut(Case)) {
     let mut random = Random(0x2468_ACE1_1357_9BDF);
     let mut make = Maker { kind: Kind::Short, out };
     strings(&[0x00, 0x01, 0x02, 0x03, 0xFF], 0..=3, |s| {
         make.encode(s, 0, &[0xAA]);
         make.decode(s, 0, s.len(), &[0x02]);
+        for cut in 0..=s.len() {
+            in_two(&mut make, s, s, cut);
+        }
     });
     for _ in 0..200 {
         let message = random_short(&mut random);
@@ -227,6 +237,7 @@ pub fn sample(out: &mut dyn FnMut(Case)) {
         let source = damage(&encoding(&message), &mut random);
         let sentinel = random.byte();
         make.decode(&source, message.len().saturating_sub(1), message.len(), &[sentinel]);
+        in_two(&mut make, &message, &source, sentinel as usize % 16);
     }
     for length in GROUP_ENDS {
         for zeros in [0, 1] {
@@ -238,6 +249,8 @@ pub fn sample(out: &mut dyn FnMut(Case)) {
             make.put(Call::Decode, &damage(&body, &mut random), length - 1, 0, FILL);
             make.put(Call::InPlaceReport, &body, body.len(), 0, FILL);
             make.put(Call::Unchosen, &masked(&body, 0x7E), body.len(), 0x7E, FILL);
+            in_two(&mut make, &message, &[&body[..], &[0]].concat(), length / 2);
+            in_two(&mut make, &message, &damage(&body, &mut random), 254);
         }
     }
 }

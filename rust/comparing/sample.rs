@@ -1,5 +1,6 @@
 //! A stored sample of the real crate's answers, one case a line:
-//!   CALL ROOM SOURCE = NUMBER FIRST SECOND DESTINATION, with a sentinel after the call's name where it takes one
+//!   CALL ROOM SOURCE = NUMBER FIRST SECOND DESTINATION, with a sentinel after the call's name where it takes one; streaming, with the
+//! length of the first of two pieces, the last answer, and, to a decoder, nothing but More before it.
 //! The destination starts as ROOM bytes 5A; in place the source is the buffer. Bytes in hexadecimal, - for none. Only cases inside 01's
 //! domain of equality: answer and bytes are the Rust's, and bytes that the domain leaves out are 5A as before.
 use crate::case::*;
@@ -17,6 +18,8 @@ fn name(case: &Case) -> Option<String> {
         Call::Decode => "decode".into(),
         Call::InPlaceReport => "in_place".into(),
         Call::Unchosen => format!("unsentinel {:02x}", case.sentinel),
+        Call::EncodePieces => format!("pieces {}", case.pieces[0]),
+        Call::DecodePieces => format!("frames {}", case.pieces[0]),
         _ => return None,
     })
 }
@@ -32,7 +35,10 @@ fn line(case: &Case) -> Option<String> {
     if !due.within || case.fill != FILL {
         return None;
     }
-    let Told { number, first, second } = due.said.told[0];
+    if case.call == Call::DecodePieces && (due.said.told.len() != 2 || due.said.told[0].number != MORE) {
+        return None;
+    }
+    let Told { number, first, second } = *due.said.told.last()?;
     Some(format!("{name} {} {} = {number} {first} {second} {}", case.room, hex(&case.source), hex(&due.said.dest)))
 }
 

@@ -1,5 +1,6 @@
 //! A case: its line read, our answer to it, and the two held against each other.
 use crate::calls;
+use crate::calls::Asked;
 use crate::calls::Told;
 use crate::say;
 use crate::text;
@@ -7,7 +8,7 @@ ghost use Prim.Native.Nat.{_≤_};
 ghost use lib.ListN.{length};
 
 /// No case is left.
-pub(crate) const END: usize = 7;
+pub(crate) const END: usize = 9;
 
 /// The next case's call, by its name's first letter.
 pub(crate) fn next_kind() -> usize {
@@ -19,6 +20,8 @@ pub(crate) fn next_kind() -> usize {
         0x64 => 4,
         0x69 => 5,
         0x75 => 6,
+        0x70 => 7,
+        0x66 => 8,
         _ => END,
     }
 }
@@ -42,6 +45,14 @@ fn sentinel(kind: usize) -> u8 {
     word[0]
 }
 
+// The length of the first piece, where there are two.
+fn cut(kind: usize) -> usize {
+    if kind < 7 {
+        return 0;
+    }
+    text::decimal()
+}
+
 // The destination before the call: 5A, or in place the source.
 fn before(kind: usize, source: &[u8], i: usize) -> u8 {
     if kind == 5 {
@@ -63,17 +74,10 @@ fn prepare(kind: usize, source: &[u8], dest: &mut [u8], room: usize)
 }
 
 // Our answer, and the destination after it.
-fn answered(
-    kind: usize,
-    sentinel: u8,
-    source: &[u8],
-    n: usize,
-    dest: &mut [u8],
-    room: usize,
-) -> Told
+fn answered(asked: Asked, source: &[u8], n: usize, dest: &mut [u8], room: usize) -> Told
     requires { ⌜ (n ≤ length (now source)) × (room ≤ length (now dest)) ⌝ }
 {
-    calls::call(kind, sentinel, &source[..n], &mut dest[..room])
+    calls::call(asked, &source[..n], &mut dest[..room])
 }
 
 fn same(a: &[u8], b: &[u8], n: usize) -> bool
@@ -118,7 +122,11 @@ fn held_to(
     dest: &mut [u8],
     theirs: &mut [u8],
 ) -> bool {
-    let sentinel = sentinel(kind);
+    let asked = Asked {
+        kind,
+        sentinel: sentinel(kind),
+        cut: cut(kind),
+    };
     let room = text::decimal();
     let n = text::bytes(source);
     text::initial();
@@ -130,7 +138,7 @@ fn held_to(
         return false;
     }
     prepare(kind, source, dest, room);
-    let ours = answered(kind, sentinel, source, n, dest, room);
+    let ours = answered(asked, source, n, dest, room);
     if same_told(ours, told) {
         if same(dest, theirs, room) {
             return true;

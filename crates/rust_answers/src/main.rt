@@ -1,6 +1,7 @@
 //! A stored sample of the answers of the crate cobs 0.5.1, replayed. Each line of the standard input is a case with the Rust's answer
-//! and bytes: `CALL ROOM SOURCE = NUMBER FIRST SECOND DESTINATION`, with a sentinel after the call's name where it takes one. The
-//! destination starts as ROOM bytes 5A; in place the source is the buffer. Bytes are in hexadecimal, - for none.
+//! and bytes: `CALL ROOM SOURCE = NUMBER FIRST SECOND DESTINATION`, with a sentinel after the call's name where it takes one, and for
+//! the streaming calls the length of the first of two pieces. The destination starts as ROOM bytes 5A; in place the source is the
+//! buffer. Bytes are in hexadecimal, - for none.
 mod calls;
 mod cases;
 mod say;
@@ -24,8 +25,8 @@ fn replay(alike: &mut [usize], unlike: &mut [usize]) {
 }
 
 fn main() {
-    let mut alike = [0usize; 7];
-    let mut unlike = [0usize; 7];
+    let mut alike = [0usize; 9];
+    let mut unlike = [0usize; 9];
     replay(&mut alike, &mut unlike);
     say::tally(b"encode", alike[0], unlike[0]);
     say::tally(b"try_encode", alike[1], unlike[1]);
@@ -34,4 +35,6 @@ fn main() {
     say::tally(b"decode", alike[4], unlike[4]);
     say::tally(b"decode_in_place_report", alike[5], unlike[5]);
     say::tally(b"decode_with_sentinel", alike[6], unlike[6]);
+    say::tally(b"CobsEncoder", alike[7], unlike[7]);
+    say::tally(b"CobsDecoder", alike[8], unlike[8]);
 }
