@@ -1,5 +1,6 @@
 //! One line: echoed, read, run by the module that knows its name, and answered on the same line.
 use crate::alone;
+use crate::batches;
 use crate::decoding;
 use crate::encoding;
 use crate::feeding;
@@ -7,11 +8,16 @@ use crate::lengths;
 use crate::read;
 use crate::read::Bytes;
 use crate::read::Case;
+use crate::records;
 use crate::say;
 use crate::streaming;
+use crate::wires;
+use crate::wires::Side;
 use crate::words;
+use batch::Receiver;
 use dec::stream::CobsDecoder;
 use enc::stream::Encoder;
+use wire::Wire;
 
 // Where each module's calls start in the list.
 const ENCODING: usize = 2;
@@ -24,7 +30,16 @@ const STREAMING: usize = 16;
 
 const FEEDING: usize = 21;
 
-const UNKNOWN: usize = 30;
+const RECORDS: usize = 30;
+
+const UNKNOWN: usize = 44;
+
+// The same from the records on.
+const FRAMES: usize = 4;
+
+const BATCHES: usize = 5;
+
+const WIRES: usize = 11;
 
 // Each name with how many numbers it takes, and its parts: 1 is `of`, 2 is `on`, and 3 is both.
 fn number(name: &[u8], count: usize, parts: usize) -> usize {
@@ -33,19 +48,24 @@ fn number(name: &[u8], count: usize, parts: usize) -> usize {
         count,
         parts,
         b"max_encoding_overhead10 max_encoding_length10 \
-        encode03 try_encode03 encode_including_sentinels03 try_encode_including_sentinels03 encode_with_sentinel13 encode_two13 \
+        encode03 try_encode03 encode_including_sentinels03 try_encode_including_sentinels03 encode_with_sentinel13 \
+        encode_two13 \
         decode03 decode_in_place02 decode_in_place_report02 decode_with_sentinel13 decode_in_place_with_sentinel12 \
         EncoderState::new00 EncoderState::push21 EncoderState::finalize20 \
         Encoder::start02 Encoder::push01 Encoder::finalize00 Encoder40 Encoder42 \
         CobsDecoder::push01 CobsDecoder::feed01 DecoderState::feed01 \
-        CobsDecoder::new02 DecoderState::new00 DecoderState::Grab10 DecoderState::GrabChain10 CobsDecoder20 CobsDecoder22",
+        CobsDecoder::new02 DecoderState::new00 DecoderState::Grab10 DecoderState::GrabChain10 CobsDecoder20 CobsDecoder22 \
+        write_particle60 write_close30 read11 class_of20 write_frame03 \
+        batch::open12 batch::accept01 Receiver40 Receiver42 Receiver60 Receiver62 \
+        Wire::open12 wire::receive11 Wire::decoder10",
     )
 }
 
-/// What stays from line to line beside the buffer: the two streaming states.
+/// What stays from line to line beside the buffer: the streaming states, and the receiving side.
 pub(crate) struct Held {
     pub encoder: Encoder,
     pub decoder: CobsDecoder,
+    pub side: Side,
 }
 
 /// What is held after a line, and the buffer.
@@ -55,7 +75,7 @@ pub(crate) struct After {
 }
 
 // The calls that keep nothing.
-fn once(k: usize, n: &[usize; 4], m: &[u8], dest: &mut [u8]) {
+fn once(k: usize, n: &[usize; 6], m: &[u8], dest: &mut [u8]) {
     let first = n[0];
     if k < ENCODING {
         lengths::run(k, first);
@@ -75,8 +95,8 @@ fn once(k: usize, n: &[usize; 4], m: &[u8], dest: &mut [u8]) {
     say::holds(dest);
 }
 
-// Any call.
-fn answer(k: usize, n: &[usize; 4], held: Held, m: &[u8], dest: &mut [u8]) -> Held {
+// The calls of the code.
+fn coded(k: usize, n: &[usize; 6], held: Held, m: &[u8], dest: &mut [u8]) -> Held {
     let mut next = held;
     if k < STREAMING {
         once(k, n, m, dest);
@@ -92,10 +112,48 @@ fn answer(k: usize, n: &[usize; 4], held: Held, m: &[u8], dest: &mut [u8]) -> He
     next
 }
 
+fn with_receiver(side: Side, receiver: Receiver) -> Side {
+    let w = side.wire;
+    let decoder = w.decoder;
+    let buffer = side.buffer;
+    let wire = Wire { decoder, receiver };
+    Side { wire, buffer }
+}
+
+// The calls of records, batches and the wire.
+fn batched(k: usize, n: &[usize; 6], side: Side, m: &[u8], dest: &mut [u8]) -> Side {
+    if k < FRAMES {
+        records::run(k, n, m);
+        return side;
+    }
+    if k == FRAMES {
+        records::frame(m, dest);
+        return side;
+    }
+    if WIRES <= k {
+        return wires::run(k - WIRES, n[0], side, m, dest);
+    }
+    let w = side.wire;
+    let r = w.receiver;
+    let receiver = batches::run(k - BATCHES, n, r, m, dest);
+    with_receiver(side, receiver)
+}
+
+// Any call.
+fn answer(k: usize, n: &[usize; 6], held: Held, m: &[u8], dest: &mut [u8]) -> Held {
+    if k < RECORDS {
+        return coded(k, n, held, m, dest);
+    }
+    let mut next = held;
+    let side = batched(k - RECORDS, n, held.side, m, dest);
+    next.side = side;
+    next
+}
+
 // The same, on the parts of the arrays that count.
 fn cut(
     k: usize,
-    n: &[usize; 4],
+    n: &[usize; 6],
     held: Held,
     m: &[u8],
     length: usize,

@@ -134,7 +134,7 @@ fn named(s: DecoderState) -> CobsDecoder {
 }
 
 // A fresh one; one at its start in the state that the line names; or one of given numbers in the state that stands.
-fn make(k: usize, n: &[usize; 4], stands: DecoderState) -> CobsDecoder {
+fn make(k: usize, n: &[usize; 6], stands: DecoderState) -> CobsDecoder {
     let first = n[0];
     match k {
         0 => new(),
@@ -150,7 +150,7 @@ fn make(k: usize, n: &[usize; 4], stands: DecoderState) -> CobsDecoder {
 /// state that stands, `CobsDecoder PLACE SKIP`, also with `on BUFFER`.
 pub(crate) fn run(
     k: usize,
-    n: &[usize; 4],
+    n: &[usize; 6],
     d: CobsDecoder,
     m: &[u8],
     dest: &mut [u8],

@@ -1,8 +1,8 @@
-//! 01's known bytes of the code, run by the compiled code. Each line of the input is a call; it is written with the
-//! answer after it, and the whole is held to the stored output. A line that starts with `#` is a heading; one that cannot
-//! be read is answered so. A number is taken modulo its field's size, and where a call takes
-//! one byte, that is the first.
+//! 01's known bytes, run by the compiled code: of the code, of records and batches, and of the wire. Each line of the input is a
+//! call; it is written with the answer after it, and the whole is held to the stored output. A line that starts with `#` is a heading;
+//! one that cannot be read is answered so. A number is taken modulo its field's size.
 mod alone;
+mod batches;
 mod cases;
 mod decoding;
 mod encoding;
@@ -10,8 +10,10 @@ mod feeding;
 mod holding;
 mod lengths;
 mod read;
+mod records;
 mod say;
 mod streaming;
+mod wires;
 mod words;
 
 use cases::Held;
@@ -20,6 +22,16 @@ use enc::state::EncoderState;
 use enc::stream::Encoder;
 use libc::STDIN_FILENO;
 use read::Bytes;
+use wire::Wire;
+use wires::Side;
+
+fn start_side() -> Side {
+    let wire = Wire::open(0, b"");
+    Side {
+        wire,
+        buffer: [0; 32],
+    }
+}
 
 fn start() -> Held {
     let encoder = Encoder {
@@ -28,13 +40,18 @@ fn start() -> Held {
         count: 0,
     };
     let decoder = CobsDecoder::new();
-    Held { encoder, decoder }
+    let side = start_side();
+    Held {
+        encoder,
+        decoder,
+        side,
+    }
 }
 
 fn lines(text: &[u8]) {
     let mut held = start();
     let mut buffer = Bytes {
-        all: [0; 640],
+        all: [0; 65_552],
         len: 0,
     };
     let mut number = 0;

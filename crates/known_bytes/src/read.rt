@@ -7,18 +7,18 @@ ghost use Prim.Native.Nat.{_≤_};
 const UNREAD: usize = 9;
 
 // The most bytes of a message, and of a buffer.
-const MOST: usize = 640;
+const MOST: usize = 65_552;
 
 /// Bytes and how many of them count. By value, since a check's time goes with what is lent as `&mut`.
 pub(crate) struct Bytes {
-    pub all: [u8; 640],
+    pub all: [u8; 65_552],
     pub len: usize,
 }
 
 /// What a line says. A line without `on` keeps the buffer of the lines before it.
 pub(crate) struct Case {
     pub parts: usize,
-    pub numbers: [usize; 4],
+    pub numbers: [usize; 6],
     pub count: usize,
     pub message: Bytes,
     pub buffer: Bytes,
@@ -27,7 +27,7 @@ pub(crate) struct Case {
 // Words that were read, and where the next one starts.
 struct Counted {
     at: usize,
-    numbers: [usize; 4],
+    numbers: [usize; 6],
     count: usize,
 }
 
@@ -98,8 +98,8 @@ fn octet(w: &[u8]) -> usize {
     nibble(w[0]) * 16 + nibble(w[1])
 }
 
-fn fill(all: [u8; 640], from: usize, to: usize, b: u8) -> [u8; 640]
-    requires { ⌜ to ≤ 640 ⌝ }
+fn fill(all: [u8; 65_552], from: usize, to: usize, b: u8) -> [u8; 65_552]
+    requires { ⌜ to ≤ 65_552 ⌝ }
 {
     let mut out = all;
     let mut i = from;
@@ -156,22 +156,36 @@ fn row(bytes: Bytes, w: &[u8]) -> Grown {
 }
 
 // One past the most is counted, and not kept.
-fn with(numbers: [usize; 4], at: usize, n: usize) -> [usize; 4] {
+fn with(numbers: [usize; 6], at: usize, n: usize) -> [usize; 6] {
     let mut out = numbers;
-    if at < 4 {
+    if at < 6 {
         out[at] = n;
     }
     out
 }
 
+// A number below 0 is taken modulo 2 to the 64.
+fn signed(w: &[u8]) -> Number {
+    if w.len() == 0 {
+        return Number::Not;
+    }
+    if w[0] != b'-' {
+        return decimal(w);
+    }
+    let Number::Is(n) = decimal(&w[1..]) else {
+        return Number::Not;
+    };
+    Number::Is(std::num::wrapping_sub_usize(0, n))
+}
+
 // Up to the first word that is no number.
 fn numbers(line: &[u8], from: usize) -> Counted {
-    let mut numbers = [0usize; 4];
+    let mut numbers = [0usize; 6];
     let mut count = 0;
     let mut at = from;
     while at < line.len() {
         let end = words::find(line, at, b' ');
-        let Number::Is(n) = decimal(&line[at..end]) else {
+        let Number::Is(n) = signed(&line[at..end]) else {
             return Counted { at, numbers, count };
         };
         let next = with(numbers, count, n);
@@ -185,7 +199,7 @@ fn numbers(line: &[u8], from: usize) -> Counted {
 // Up to the first word that is no row of bytes.
 fn rows(line: &[u8], from: usize, parts: usize) -> Span {
     let mut bytes = Bytes {
-        all: [0; 640],
+        all: [0; 65_552],
         len: 0,
     };
     let mut at = from;
@@ -220,7 +234,7 @@ fn part(line: &[u8], from: usize, word: &[u8], parts: usize, bytes: Bytes) -> Sp
 pub(crate) fn read(line: &[u8], from: usize, stands: Bytes) -> Case {
     let n = numbers(line, from);
     let none = Bytes {
-        all: [0; 640],
+        all: [0; 65_552],
         len: 0,
     };
     let m = part(line, n.at, b"of", 1, none);

@@ -24,9 +24,11 @@ pub(crate) fn end() {
 pub(crate) fn word(k: usize) {
     words::show(
         b"TooLong|DestBufTooSmall|BadState|EmptyFrame|InvalidFrame |TargetBufTooSmall|More|Accepted|AddSingle |\
-        ModifyFromStartAndSkip |ModifyFromStartAndPushAndSkip |NoData|DataStart|DataComplete|DataContinue |\
-        Idle|Grab |GrabChain |place | code | full| count | skip|frame |, parsed |, consumed |size |, | |; holds|\
-        : |cannot read line | -|*|Ready",
+        ModifyFromStartAndSkip |ModifyFromStartAndPushAndSkip |NoData|DataStart|DataComplete|DataContinue |Idle|\
+        Grab |GrabChain |Ready|Done|BadLength|BadRecord|Stale|Ahead|NoRoom|BeyondClose|Conflict|Open|Missing|\
+        Complete|Differs|Ours|particle |close | index | weight | count | total |, written |batch |, slots |\
+        , total |, stands |; total |place | code | full| skip|frame |, parsed |, consumed |size |, |; |;| |\
+        ; holds|: |cannot read line | -|*",
         k,
     );
 }
@@ -34,6 +36,13 @@ pub(crate) fn word(k: usize) {
 /// A word and a number.
 pub(crate) fn named(k: usize, n: usize) {
     word(k);
+    number(n);
+}
+
+/// An answer and the number that it carries.
+pub(crate) fn numbered(k: usize, n: usize) {
+    word(k);
+    word(words::SPACE);
     number(n);
 }
 
@@ -63,8 +72,8 @@ fn row(b: u8, n: usize) {
     byte(b);
 }
 
-// The bytes in hexadecimal, a row of equal ones as its length and the byte; `-` for none.
-fn bytes(s: &[u8]) {
+/// The bytes in hexadecimal, a row of equal ones as its length and the byte; `-` for none.
+pub(crate) fn bytes(s: &[u8]) {
     if s.len() == 0 {
         word(words::NONE);
     }

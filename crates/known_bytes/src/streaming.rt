@@ -17,7 +17,7 @@ fn shown(e: Encoder) {
     say::named(words::COUNT, e.count);
 }
 
-fn set(n: &[usize; 4]) -> Encoder {
+fn set(n: &[usize; 6]) -> Encoder {
     let state = EncoderState {
         place: n[0],
         code: (n[1] % 256) as u8,
@@ -87,7 +87,7 @@ fn finish(e: Encoder, dest: &mut [u8]) -> Encoder {
 
 /// `Encoder::start on BUFFER`, `Encoder::push of PIECE`, `Encoder::finalize`; and an encoder of given numbers,
 /// `Encoder PLACE CODE FULL COUNT`, also with `on BUFFER`.
-pub(crate) fn run(k: usize, n: &[usize; 4], e: Encoder, m: &[u8], dest: &mut [u8]) -> Encoder {
+pub(crate) fn run(k: usize, n: &[usize; 6], e: Encoder, m: &[u8], dest: &mut [u8]) -> Encoder {
     match k {
         0 => start(e, dest),
         1 => push(e, m, dest),

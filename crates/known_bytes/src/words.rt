@@ -40,39 +40,91 @@ pub(crate) const GRAB: usize = 16;
 
 pub(crate) const GRAB_CHAIN: usize = 17;
 
-pub(crate) const PLACE: usize = 18;
+pub(crate) const READY: usize = 18;
 
-pub(crate) const CODE: usize = 19;
+pub(crate) const DONE: usize = 19;
 
-pub(crate) const FULL: usize = 20;
+pub(crate) const BAD_LENGTH: usize = 20;
 
-pub(crate) const COUNT: usize = 21;
+pub(crate) const BAD_RECORD: usize = 21;
 
-pub(crate) const SKIP: usize = 22;
+pub(crate) const STALE: usize = 22;
 
-pub(crate) const FRAME: usize = 23;
+pub(crate) const AHEAD: usize = 23;
 
-pub(crate) const PARSED: usize = 24;
+pub(crate) const NO_ROOM: usize = 24;
 
-pub(crate) const CONSUMED: usize = 25;
+pub(crate) const BEYOND_CLOSE: usize = 25;
 
-pub(crate) const SIZE: usize = 26;
+pub(crate) const CONFLICT: usize = 26;
 
-pub(crate) const COMMA: usize = 27;
+pub(crate) const OPEN: usize = 27;
 
-pub(crate) const SPACE: usize = 28;
+pub(crate) const MISSING: usize = 28;
 
-pub(crate) const HOLDS: usize = 29;
+pub(crate) const COMPLETE: usize = 29;
 
-pub(crate) const COLON: usize = 30;
+pub(crate) const DIFFERS: usize = 30;
 
-pub(crate) const UNREAD: usize = 31;
+pub(crate) const OURS: usize = 31;
 
-pub(crate) const NONE: usize = 32;
+pub(crate) const PARTICLE: usize = 32;
 
-pub(crate) const TIMES: usize = 33;
+pub(crate) const CLOSE: usize = 33;
 
-pub(crate) const READY: usize = 34;
+pub(crate) const INDEX: usize = 34;
+
+pub(crate) const WEIGHT: usize = 35;
+
+pub(crate) const COUNT: usize = 36;
+
+pub(crate) const TOTAL: usize = 37;
+
+pub(crate) const WRITTEN: usize = 38;
+
+pub(crate) const BATCH: usize = 39;
+
+pub(crate) const SLOTS: usize = 40;
+
+pub(crate) const ITS_TOTAL: usize = 41;
+
+pub(crate) const STANDS: usize = 42;
+
+pub(crate) const THEN_TOTAL: usize = 43;
+
+pub(crate) const PLACE: usize = 44;
+
+pub(crate) const CODE: usize = 45;
+
+pub(crate) const FULL: usize = 46;
+
+pub(crate) const SKIP: usize = 47;
+
+pub(crate) const FRAME: usize = 48;
+
+pub(crate) const PARSED: usize = 49;
+
+pub(crate) const CONSUMED: usize = 50;
+
+pub(crate) const SIZE: usize = 51;
+
+pub(crate) const COMMA: usize = 52;
+
+pub(crate) const THEN: usize = 53;
+
+pub(crate) const SEMICOLON: usize = 54;
+
+pub(crate) const SPACE: usize = 55;
+
+pub(crate) const HOLDS: usize = 56;
+
+pub(crate) const COLON: usize = 57;
+
+pub(crate) const UNREAD: usize = 58;
+
+pub(crate) const NONE: usize = 59;
+
+pub(crate) const TIMES: usize = 60;
 
 /// Where the byte stands first from `from` on, or the end.
 pub(crate) fn find(s: &[u8], from: usize, byte: u8) -> usize

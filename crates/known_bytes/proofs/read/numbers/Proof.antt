@@ -17,17 +17,17 @@ loop-holds c = search needs
 find-requires : tie.Need-find-requires Inv-loop μ-loop
 find-requires c κs = search needs
 
-sub-decimal : tie.Need-sub-decimal Inv-loop μ-loop
-sub-decimal c = search needs
+sub-signed : tie.Need-sub-signed Inv-loop μ-loop
+sub-signed c = search needs
 
-part-decimal-start : tie.Need-part-decimal-start Inv-loop μ-loop
-part-decimal-start c = search needs
+part-signed-start : tie.Need-part-signed-start Inv-loop μ-loop
+part-signed-start c = search needs
 
-part-decimal-end : tie.Need-part-decimal-end Inv-loop μ-loop
-part-decimal-end c = search needs
+part-signed-end : tie.Need-part-signed-end Inv-loop μ-loop
+part-signed-end c = search needs
 
-decimal-requires : tie.Need-decimal-requires Inv-loop μ-loop
-decimal-requires c κs = search needs
+signed-requires : tie.Need-signed-requires Inv-loop μ-loop
+signed-requires c κs = search needs
 
 enum-known-n : tie.Need-enum-known-n Inv-loop μ-loop
 enum-known-n c = search needs
@@ -64,10 +64,10 @@ numbers-spec =
     μ-loop
     loop-holds
     find-requires
-    sub-decimal
-    part-decimal-start
-    part-decimal-end
-    decimal-requires
+    sub-signed
+    part-signed-start
+    part-signed-end
+    signed-requires
     enum-known-n
     enum-told
     returns

@@ -7,7 +7,7 @@ use wire::Received;
 use wire::Wire;
 
 /// Both states, and the decoder's buffer.
-pub(crate) struct Held {
+pub(crate) struct Side {
     pub wire: Wire,
     pub buffer: [u8; 32],
 }
@@ -37,7 +37,7 @@ fn answer(found: Received) {
             say::word(words::MORE);
         }
         Received::InvalidFrame { decoded } => {
-            say::numbered(words::INVALID_FRAME, decoded);
+            say::named(words::INVALID_FRAME, decoded);
         }
         Received::TargetBufTooSmall => {
             say::word(words::TARGET_BUF_TOO_SMALL);
@@ -100,11 +100,11 @@ fn on_room(w: Wire, room: usize, piece: &[u8], buffer: &mut [u8], table: &mut [u
     receive(w, piece, &mut buffer[0..room], table)
 }
 
-fn brought(held: Held, room: usize, piece: &[u8], table: &mut [u8]) -> Held {
+fn brought(held: Side, room: usize, piece: &[u8], table: &mut [u8]) -> Side {
     let w = held.wire;
     let mut buffer = held.buffer;
     let wire = on_room(w, room, piece, &mut buffer, table);
-    Held { wire, buffer }
+    Side { wire, buffer }
 }
 
 // A decoder at that write place, and idle.
@@ -117,21 +117,21 @@ fn decoder(place: usize) -> CobsDecoder {
     }
 }
 
-fn with_decoder(held: Held, decoder: CobsDecoder) -> Held {
+fn with_decoder(held: Side, decoder: CobsDecoder) -> Side {
     let w = held.wire;
     let receiver = w.receiver;
     let buffer = held.buffer;
     let wire = Wire { decoder, receiver };
-    Held { wire, buffer }
+    Side { wire, buffer }
 }
 
-fn with_wire(held: Held, wire: Wire) -> Held {
+fn with_wire(held: Side, wire: Wire) -> Side {
     let buffer = held.buffer;
-    Held { wire, buffer }
+    Side { wire, buffer }
 }
 
 /// `Wire::open BATCH on TABLE`, `wire::receive ROOM of PIECE` with so many bytes for the decoder, and `CobsDecoder PLACE`.
-pub(crate) fn run(k: usize, n: usize, held: Held, m: &[u8], table: &mut [u8]) -> Held {
+pub(crate) fn run(k: usize, n: usize, held: Side, m: &[u8], table: &mut [u8]) -> Side {
     match k {
         0 => with_wire(held, open(n, table)),
         1 => brought(held, n, m, table),

@@ -1,8 +1,8 @@
 -- `records::signed` meets its contract. Assumes nothing.
 use Rattle.record.proofs.Signs.{less-fits, less-cast}
 use borrow.Author.Needs.{needs}
-use Rattle.known_batches.proofs.records.signed.Statement.{statement}
-use Rattle.known_batches.proofs.records.signed.Tie as tie
+use Rattle.known_bytes.proofs.records.signed.Statement.{statement}
+use Rattle.known_bytes.proofs.records.signed.Tie as tie
 
 cast-result : tie.Need-cast-result
 cast-result c = search needs
