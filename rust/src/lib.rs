@@ -31,6 +31,8 @@
 
 mod calls;
 mod receiver;
+#[cfg(test)]
+mod tests;
 
 pub use receiver::{state_length, Receipt, Receiver, Stands};
 

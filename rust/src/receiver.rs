@@ -8,9 +8,9 @@ pub fn state_length() -> usize {
 
 /// A receiver of one batch. It holds what it was lent, so that every call gets the same buffer, table and states.
 pub struct Receiver<'a> {
-    state: &'a mut [u64],
-    buffer: &'a mut [u8],
-    table: &'a mut [u8],
+    pub(crate) state: &'a mut [u64],
+    pub(crate) buffer: &'a mut [u8],
+    pub(crate) table: &'a mut [u8],
 }
 
 /// What a call came to.

@@ -6,47 +6,17 @@ use mathlib.Core.List.{List, _++_, append-assoc}
 use Prim.Native.Nat.{ℕ, _+_, _-_, _≤_, _<_}
 use native.Mathlib.Decide.{decLt}
 use native.Mathlib.Omega.{arith}
-use lib.IntN.{ℤ}
 use lib.ListN.{length, take, drop, length-drop, take-append-drop}
 use lib.Seq.{paste, drop-paste, drop-drop, drop-at, take-at, length-take-le, drop-append-le, take-append-le}
-use borrow.Author.Tests.{lt-leb, le-ltb, eq-eqb}
-use Rattle.cobs.specs.Words.{if_then_else_}
 use Rattle.blocks.proofs.Blocks.{copied-fits}
-use Rattle.marks.specs.Marks.{marked, markedBelow}
+use Rattle.marks.specs.Marks.{marked}
 use Rattle.marks.proofs.Marks.{set-mark-here, set-mark-other}
-use Rattle.record.specs.Record.{readOf, classOf}
-use Rattle.record.specs.declared.Record.the-variants as kind
-use Rattle.record.specs.declared.ReadAnswer.the-variants as read
-use Rattle.record.specs.declared.Class.the-variants as class
-use Rattle.batch.specs.State.{slotAt, slot, markedIn, limit}
-use Rattle.batch.specs.Verdict.{onParticle, onClose, onRead, verdict, after, stored}
+use Rattle.batch.specs.State.{slotAt, slot}
+use Rattle.batch.specs.Verdict.{after, stored}
 use Rattle.batch.specs.declared.Receiver.{Receiver}
-use Rattle.batch.specs.declared.Close.the-variants.{Not, Taken}
+use Rattle.batch.specs.declared.Close.the-variants.{Taken}
 use Rattle.batch.specs.declared.judge.Effect.{Effect}
 use Rattle.batch.specs.declared.judge.Effect.the-variants.{Repeat, Store, Close}
-use Rattle.batch.specs.declared.judge.Verdict.the-variants.{Take}
-use Rattle.batch.proofs.Good.{Good}
-
--- ---- which effect a record of ours has
-
-module _ (k : ℕ) (r : Receiver) (t s : List ℕ) (batch : ℕ) (ours : classOf batch (r .batch) ≡ class.Ours) where
-  -- a particle with room for it: new, or a repeat
-  pub takes-particle : (i : ℕ) (x y z : ℤ) (w : ℕ) → readOf 0 s ≡ read.Good (kind.Particle batch i x y z w)
-      → i < r .slots → i < limit r → verdict k r t s ≡ (if marked (r .marks) i then Take Repeat else Take (Store i w))
-  unfolding verdict onRead onParticle
-  takes-particle i x y z w e h l = rw (e, ours, lt-leb (r .slots) i h, lt-leb (limit r) i l)
-
-  -- the first close
-  pub takes-close : (n u : ℕ) → readOf 0 s ≡ read.Good (kind.Close batch n u)
-      → n ≤ r .slots → r .close ≡ Not → markedIn r ≤ markedBelow (r .marks) n → verdict k r t s ≡ Take (Close n u)
-  unfolding verdict onRead onClose
-  takes-close n u e h c b = rw (e, ours, le-ltb (r .slots) n h, c, le-ltb (markedBelow (r .marks) n) (markedIn r) b)
-
-  -- the same close again
-  pub drops-close : (n u : ℕ) → readOf 0 s ≡ read.Good (kind.Close batch n u)
-      → n ≤ r .slots → r .close ≡ Taken n u → verdict k r t s ≡ Take Repeat
-  unfolding verdict onRead onClose
-  drops-close n u e h c = rw (e, ours, le-ltb (r .slots) n h, c, eq-eqb n n refl, eq-eqb u u refl)
 
 -- ---- a new particle
 
@@ -59,14 +29,10 @@ pub store-others : (r : Receiver) (i w j : ℕ) → j ≢ i → marked (after (S
 unfolding after
 store-others r i w j d = set-mark-other (r .marks) i j d
 
--- its weight is added; the close, the slots and the batch number stay
+-- its weight is added
 pub store-total : (r : Receiver) (i w : ℕ) → after (Store i w) r .total ≡ r .total + w
 unfolding after
 store-total r i w = refl
-
-pub store-close : (r : Receiver) (i w : ℕ) → after (Store i w) r .close ≡ r .close
-unfolding after
-store-close r i w = refl
 
 -- sixteen bytes pasted, read back, and read elsewhere
 slot-pasted : (t s : List ℕ) (p : ℕ) → p + 16 ≤ length t → 16 ≤ length s → take 16 (drop p (paste t p s 16)) ≡ take 16 s
@@ -132,14 +98,6 @@ close-total r n u = refl
 pub repeat-state : (r : Receiver) → after Repeat r ≡ r
 unfolding after
 repeat-state r = refl
-
-pub repeat-table : (t s : List ℕ) → stored Repeat t s ≡ t
-unfolding stored
-repeat-table t s = refl
-
-pub close-table : (n u : ℕ) (t s : List ℕ) → stored (Close n u) t s ≡ t
-unfolding stored
-close-table n u t s = refl
 
 -- ---- no record changes the slots or the batch number
 

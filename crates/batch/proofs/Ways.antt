@@ -162,9 +162,6 @@ module _ (k : ℕ) (r : Receiver) (n t : ℕ) where
 pub batch-particle : (item : Record) (b i : ℕ) (x y z : ℤ) (w : ℕ) → item ≡ kind.Particle b i x y z w → b ≡ batchIn item
 batch-particle item b i x y z w e = simp e
 
-pub batch-close : (item : Record) (b n t : ℕ) → item ≡ kind.Close b n t → b ≡ batchIn item
-batch-close item b n t e = simp e
-
 pub ours-particle : (k : ℕ) (r : Receiver) (item : Record) (b i : ℕ) (x y z : ℤ) (w : ℕ) → item ≡ kind.Particle b i x y z w
     → {v : Verdict} → v ≡ onParticle k r i w → v ≡ onOurs k r item
 ours-particle k r item b i x y z w e q = simp e q

@@ -234,11 +234,3 @@ module _ (s : List ℕ) (from : ℕ) (h : from + 16 ≤ length s) where
     pub taken-is-zeros : takenOf d at s from ≡ Zeros → isAll 0 s from ≡ true
     unfolding isAll
     taken-is-zeros e = rw (le-leb (from + 16) (length s) h) (kind-zeros (sym (taken-fits d at s from k h) ∙ e))
-
-    pub taken-something : takenOf d at s from ≡ Nothing → ⊥
-    taken-something e = go (each (λ b. eqb b 0) (take 16 (drop from s))) (each (λ b. not (eqb b 0)) (take 16 (drop from s))) (sym (taken-fits d at s from k h) ∙ e)
-      where
-        go : (x y : Bool) → (if x then Zeros else if y then Clear else Mixed) ≡ Nothing → ⊥
-        go true y e = let z : _≡_ {A = ℕ} 0 1 = cc in omega arith
-        go false true e = let z : _≡_ {A = ℕ} 0 1 = cc in omega arith
-        go false false e = let z : _≡_ {A = ℕ} 0 1 = cc in omega arith

@@ -1,13 +1,13 @@
 -- Laws of `markedBelow`: how many of the indices below n are marked. Assumes nothing.
 use mathlib.Core.Path.{_≡_, ap, _∙_}
-use mathlib.Core.Bool.{true, false}
+use mathlib.Core.Bool.{false}
 use mathlib.Core.List.{List}
 use Prim.Native.Nat.{ℕ, _+_, _-_, _≤_, _<_}
 use native.Mathlib.Omega.{arith}
 use lib.ListN.{length}
 use Rattle.marks.specs.Marks.{marked, noMarks, setMark, countBelow, markedBelow}
-use Rattle.marks.proofs.Counts.{count-same, count-add, count-both, count-new, count-none, none-counted, count-all, all-counted}
-use Rattle.marks.proofs.Marks.{marked-out, none-marked, set-mark-here, set-mark-other, set-mark-again}
+use Rattle.marks.proofs.Counts.{count-add, count-both, count-new, count-none}
+use Rattle.marks.proofs.Marks.{marked-out, none-marked, set-mark-here, set-mark-other}
 
 -- The indices from n on, below m.
 from : (ws : List ℕ) (n m : ℕ) → n ≤ m → markedBelow ws m ≡ markedBelow ws n + countBelow (λ s. marked ws (n + s)) (m - n)
@@ -35,19 +35,7 @@ unfolding markedBelow
 below-new ws i n l h b e =
     count-new (marked ws) (marked (setMark ws i)) i n b e (set-mark-here ws i l h) (set-mark-other ws i)
 
-pub below-again : (ws : List ℕ) (i n : ℕ) → marked ws i ≡ true → markedBelow (setMark ws i) n ≡ markedBelow ws n
-below-again ws i n e = rw (set-mark-again ws i e)
-
-pub below-kept : (ws : List ℕ) (i n : ℕ) → n ≤ i → markedBelow (setMark ws i) n ≡ markedBelow ws n
-unfolding markedBelow
-below-kept ws i n h = count-same (marked (setMark ws i)) (marked ws) n (λ j k. set-mark-other ws i j (λ e. omega arith))
-
--- ---- No more marks below m than below n: none from n on, and conversely
-
-pub none-from : (ws : List ℕ) (n m : ℕ) → markedBelow ws m ≤ markedBelow ws n → (j : ℕ) → n ≤ j → j < m → marked ws j ≡ false
-none-from ws n m e j a b =
-    ap (marked ws) {x = j} {y = n + (j - n)} (omega arith)
-    ∙ none-counted (λ s. marked ws (n + s)) (m - n) (omega (arith, from ws n m (omega arith))) (j - n) (omega arith)
+-- ---- No marks from n on: no more of them below m than below n
 
 pub from-none : (ws : List ℕ) (n m : ℕ) → n ≤ m → ((j : ℕ) → n ≤ j → j < m → marked ws j ≡ false) → markedBelow ws m ≤ markedBelow ws n
 from-none ws n m h none =
@@ -58,13 +46,3 @@ from-none ws n m h none =
 pub below-past : (ws : List ℕ) (n : ℕ) → length ws ≡ 64 → 4096 ≤ n → markedBelow ws n ≡ markedBelow ws 4096
 below-past ws n l h =
     omega (arith, below-mono ws 4096 n h, from-none ws 4096 n h (λ j a b. marked-out ws j l a))
-
--- ---- As many marks below n as n: all of them, and conversely
-
-pub all-below : (ws : List ℕ) (n : ℕ) → markedBelow ws n ≡ n → (j : ℕ) → j < n → marked ws j ≡ true
-unfolding markedBelow
-all-below ws n e = all-counted (marked ws) n e
-
-pub below-all : (ws : List ℕ) (n : ℕ) → ((j : ℕ) → j < n → marked ws j ≡ true) → markedBelow ws n ≡ n
-unfolding markedBelow
-below-all ws n h = count-all (marked ws) n h

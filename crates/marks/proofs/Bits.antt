@@ -89,10 +89,6 @@ bit-set w s = rw (← or-bit w s, bit-or, power-here, or-true)
 pub bit-other : (w s t : ℕ) → t ≢ s → bitAt (withBit w s) t ≡ bitAt w t
 bit-other w s t d = rw (← or-bit w s, bit-or, power-other s t d, or-false)
 
-pub bit-again : (w s : ℕ) → bitAt w s ≡ true → withBit w s ≡ w
-unfolding withBit
-bit-again w s e = rw e
-
 pub zero-bit : (s : ℕ) → bitAt 0 s ≡ false
 unfolding bitAt
 zero-bit s = rw (zero-div (2 ^ s))

@@ -56,7 +56,7 @@ unfolding countBelow
 count-none p zero h = refl
 count-none p (suc n) h = omega (arith, count-none p n (λ j k. h j (omega arith)), ap one (h n (omega arith)))
 
-pub none-counted : (p : ℕ → Bool) (n : ℕ) → countBelow p n ≡ 0 → (j : ℕ) → j < n → p j ≡ false
+none-counted : (p : ℕ → Bool) (n : ℕ) → countBelow p n ≡ 0 → (j : ℕ) → j < n → p j ≡ false
 unfolding countBelow
 none-counted p zero e j h = absurd (omega arith)
 none-counted p (suc n) e j h =

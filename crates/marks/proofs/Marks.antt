@@ -7,19 +7,15 @@ use Prim.Native.Nat.{ℕ, zero, suc, _/_, _%_, _≤_, _<_}
 use native.Mathlib.Decide.{decLt, ℕ-discrete}
 use native.Mathlib.Omega.{arith}
 use lib.ListN.{length, getD, replicate, length-set, List·getD-eq-default}
-use lib.Seq.{set-out, set-getD, getD-set-same, getD-set-other}
+use lib.Seq.{set-out, getD-set-same, getD-set-other}
 use Rattle.marks.specs.Marks.{withBit, marked, noMarks, setMark}
-use Rattle.marks.proofs.Bits.{bit-set, bit-other, bit-again, zero-bit}
+use Rattle.marks.proofs.Bits.{bit-set, bit-other, zero-bit}
 
 -- ---- Out of range
 
 pub marked-out : (ws : List ℕ) (i : ℕ) → length ws ≡ 64 → 4096 ≤ i → marked ws i ≡ false
 unfolding marked
 marked-out ws i l h = rw (List·getD-eq-default ws 0 {n = i / 64} (omega arith), zero-bit)
-
-pub set-mark-out : (ws : List ℕ) (i : ℕ) → length ws ≡ 64 → 4096 ≤ i → setMark ws i ≡ ws
-unfolding setMark
-set-mark-out ws i l h = set-out ws (i / 64) (withBit (getD ws (i / 64) 0) (i % 64)) (omega arith)
 
 -- ---- No marks
 
@@ -53,7 +49,3 @@ set-mark-other ws i j d =
       ]
       | no n ↦ rw (getD-set-other ws (i / 64) (j / 64))
     ]
-
-pub set-mark-again : (ws : List ℕ) (i : ℕ) → marked ws i ≡ true → setMark ws i ≡ ws
-unfolding marked setMark
-set-mark-again ws i e = rw (bit-again (getD ws (i / 64) 0) (i % 64) e, set-getD)

@@ -21,8 +21,8 @@ use Rattle.batch.specs.declared.Answer.the-variants.{BadState, BadLength, BadRe
 use Rattle.batch.specs.declared.judge.Effect.{Effect}
 use Rattle.batch.specs.declared.judge.Verdict.{Verdict}
 use Rattle.batch.specs.declared.judge.Verdict.the-variants.{Take, Refuse}
-use Rattle.batch.proofs.Good.{Good, not-bad, good-all}
-use Rattle.batch.proofs.Fold.{not-taken, by-records}
+use Rattle.batch.proofs.Good.{Good, not-bad}
+use Rattle.batch.proofs.Kept.{accept-length, accept-good}
 use Rattle.batch.proofs.Effects.{stored-length}
 use Rattle.dec.proofs.Cases.{by-bool}
 use Rattle.wire.specs.Receive.{End, accepting}
@@ -36,27 +36,10 @@ pub fit : (e : End) → Fine e → accepting .isBad e ≡ false
 unfolding Fine
 fit e g = not-bad (e .receiver) (length (e .table)) g
 
-same-long : (n k : ℕ) (r : Receiver) (t s : List ℕ) (r′ : Receiver) (t′ : List ℕ) → takeAll n k r t s ≡ taken r′ t′ → length t′ ≡ length t
-same-long n k r t s r′ t′ e =
-    by-records (λ n r t s r′ t′. length t′ ≡ length t) (λ r t s. refl) (λ n k r t s e r′ t′ q ih. ih ∙ stored-length e t s) n k r t s r′ t′ e
-
-taken-from : (r : Receiver) (t f : List ℕ) → Good r (length t) → (r′ : Receiver) (t′ : List ℕ) → outcome r t f ≡ taken r′ t′
-    → takeAll (length f / 16) 0 r t f ≡ taken r′ t′
-unfolding outcome
-taken-from r t f g r′ t′ q =
-    by-bool (isBadLength 16 240 (length f))
-    (λ l. absurd (not-taken (rw (not-bad r (length t) g, l) at q)))
-    (λ l. rw (not-bad r (length t) g, l) at q)
-
-still : (r : Receiver) (t f : List ℕ) → Good r (length t) → (o : Outcome) → outcome r t f ≡ o → Good (nextAfter r o) (length (tableAfter t o))
-still r t f g (refused a) q = g
-still r t f g (taken r′ t′) q =
-    let k = taken-from r t f g r′ t′ q in
-    rw (same-long (length f / 16) 0 r t f r′ t′ k) (good-all (length f / 16) 0 r t f r′ t′ (length t) k g)
-
 pub keeps : (e : End) (f : List ℕ) → Fine e → Fine (accepting .after e f)
-unfolding Fine acceptNext acceptTable
-keeps e f g = still (e .receiver) (e .table) f g (outcome (e .receiver) (e .table) f) refl
+unfolding Fine
+keeps e f g =
+    rw (accept-length (e .receiver) (e .table) f) (accept-good (e .receiver) (e .table) f (length (e .table)) g)
 
 -- ---- its answer is never More
 

@@ -3,7 +3,7 @@
 use mathlib.Core.Path.{_≡_, refl, sym, ap, ap₂, _∙_}
 use mathlib.Core.Bool.{Bool, true, false}
 use mathlib.Core.List.{List, [], _∷_, _++_}
-use Prim.Native.Nat.{ℕ, _+_, _-_, _*_, _/_, _%_, _≤_, _<_, min}
+use Prim.Native.Nat.{ℕ, _+_, _-_, _*_, _/_, _≤_, _<_, min}
 use native.Mathlib.Nat.{le-refl}
 use native.Mathlib.Decide.{ℕ-discrete}
 use native.Mathlib.Omega.{arith}
@@ -14,9 +14,9 @@ use Rattle.cobs.specs.Answers.{done}
 use Rattle.marks.specs.Marks.{marked, setMark, markedBelow}
 use Rattle.marks.proofs.Marks.{none-marked, set-mark-here, set-mark-other, set-mark-length}
 use Rattle.marks.proofs.Below.{from-none}
-use Rattle.record.specs.Record.{bytesOf, isValid, fieldsFor, writeTold, writtenBytes, readOf, classOf}
+use Rattle.record.specs.Record.{bytesOf, isValid, fieldsFor, writeTold, writtenBytes, readOf}
 use Rattle.record.specs.declared.ReadAnswer.the-variants as read
-use Rattle.record.specs.declared.Class.the-variants.{Ours}
+use Rattle.record.proofs.Valid.{class-same}
 use Rattle.record.proofs.Round.{Holds, particle, close, read-written}
 use Rattle.batch.specs.State.{opened, markedIn, limitBy, limit}
 use Rattle.batch.specs.Verdict.{onParticle, onClose, onOurs, onRead, verdict, after, stored}
@@ -62,10 +62,6 @@ module _ (b : Batch) (numbered : b .number < 65536) (few : count b ≤ 4096) (ra
   unfolding writtenBytes bytesOf
   record-long item h = rw (written item h)
 
-  same-class : classOf (b .number) (b .number) ≡ Ours
-  unfolding classOf
-  same-class = let e : (b .number + (65536 - b .number)) % 65536 ≡ 0 = omega arith in rw e
-
   -- ---- what the receiver holds when these items have arrived, on a table of n bytes with a slot for each particle
 
   abbrev pub closeBy : Bool → Close
@@ -108,8 +104,8 @@ module _ (b : Batch) (numbered : b .number < 65536) (few : count b ≤ 4096) (ra
       judged : (k : ℕ) (t : List ℕ) (item : Item) → IsOf b item → (s : List ℕ)
           → verdict k r t (writtenBytes 0 (recordOf b item) ++ s) ≡ onOurs k r (recordOf b item)
       unfolding verdict onRead
-      judged k t (wire.particle i) q s = rw (reads (wire.particle i) q s, h .batch, same-class)
-      judged k t wire.close q s = rw (reads wire.close q s, h .batch, same-class)
+      judged k t (wire.particle i) q s = rw (reads (wire.particle i) q s, h .batch, class-same (b .number) numbered)
+      judged k t wire.close q s = rw (reads wire.close q s, h .batch, class-same (b .number) numbered)
 
       -- weights of the items that arrived, where what has arrived is the same
       same-total : (m : List Item) → ((j : ℕ) → has j m ≡ has j l) → arrivedTotal b m ≡ arrivedTotal b l

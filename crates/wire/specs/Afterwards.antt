@@ -26,6 +26,7 @@ tableAfter d = run d .side .state .table
 
 -- ---- The slots, where the caller leaves the table alone
 
+-- What call k's caller hands over is what the call before left.
 abbrev pub LeftAlone : Delivery → Type 0
 LeftAlone d = (k : ℕ) (table : List ℕ) → d .handed k table ≡ table
 
@@ -36,18 +37,21 @@ pub record Slots (d : Delivery) : Type 0 where
 
 -- ---- A list of frames without its repeats
 
+-- The same particle, or both the close.
 abbrev pub sameItem : Item → Item → Bool
 sameItem (particle i) (particle j) = eqb i j
 sameItem (particle i) close = false
 sameItem close (particle j) = false
 sameItem close close = true
 
+-- The same items in the same order.
 abbrev pub sameFrame : List Item → List Item → Bool
 sameFrame [] [] = true
 sameFrame [] (item ∷ frame) = false
 sameFrame (item ∷ frame) [] = false
 sameFrame (item ∷ frame) (other ∷ frame′) = sameItem item other && sameFrame frame frame′
 
+-- The frame was seen before.
 abbrev pub isAmong : (frame : List Item) (seen : List (List Item)) → Bool
 isAmong frame [] = false
 isAmong frame (other ∷ seen) = sameFrame frame other || isAmong frame seen
@@ -57,5 +61,6 @@ abbrev pub firsts : (seen frames : List (List Item)) → List (List Item)
 firsts seen [] = []
 firsts seen (frame ∷ frames) = if isAmong frame seen then firsts seen frames else frame ∷ firsts (frame ∷ seen) frames
 
+-- Of equal frames the first alone.
 abbrev pub withoutRepeats : List (List Item) → List (List Item)
 withoutRepeats frames = firsts [] frames
