@@ -10,7 +10,8 @@ use borrow.Author.Tests.{eq-eqb, ne-eqb}
 use Rattle.cobs.specs.Answers.{Told, tell}
 use Rattle.dec.proofs.Cases.{by-bool}
 use Rattle.batch.specs.State.{standsTold}
-use Rattle.wire.specs.Loop.{Received, received}
+use Rattle.wire.specs.Again.{Received}
+use Rattle.wire.specs.Loop.{Side, received}
 use Rattle.wire.specs.Receive.{End, accepting}
 use Rattle.wire.specs.Call.{toldReceived, start, calls, leaves}
 use Rattle.wire.specs.declared.Wire.{Wire}
@@ -65,14 +66,14 @@ module _ (ns : List ℕ) (f : Found) (found : f ≡ readOf ns) where
       unfolding receiveTold receiveConsumed receiveState receiveBuffer receiveTable writtenTo
       receive-some =
           rw (named-is ∙ named) (
-            answer ∙ ap (λ (x : Received End). x .answer) whole,
+            answer ∙ ap (λ (x : Received (Side End)). x .answer) whole,
             (
-              ap (λ (x : Received End). x .consumed) whole,
+              ap (λ (x : Received (Side End)). x .consumed) whole,
               (
-                kept ∙ rw (long ns (named-is ∙ named)) (ap (λ (x : Received End). numbersOf (wireOf (x .side))) whole),
+                kept ∙ rw (long ns (named-is ∙ named)) (ap (λ (x : Received (Side End)). numbersOf (wireOf (x .side))) whole),
                 (
                   still ∙ long ns (named-is ∙ named),
-                  (ap (λ (x : Received End). x .side .buffer) whole, ap (λ (x : Received End). x .side .state .table) whole),
+                  (ap (λ (x : Received (Side End)). x .side .buffer) whole, ap (λ (x : Received (Side End)). x .side .state .table) whole),
                 ),
               ),
             ),

@@ -7,7 +7,8 @@ use lib.ListN.{length}
 use Rattle.cobs.specs.Words.{if_then_else_}
 use Rattle.cobs.specs.Answers.{Told, done, badState}
 use Rattle.batch.specs.State.{standsTold}
-use Rattle.wire.specs.Loop.{Side, Received, received}
+use Rattle.wire.specs.Again.{Received}
+use Rattle.wire.specs.Loop.{Side, received}
 use Rattle.wire.specs.Receive.{End, accepting}
 use Rattle.wire.specs.Call.{start, calls}
 use Rattle.wire.specs.declared.Wire.{Wire}
@@ -26,7 +27,7 @@ openState ns batch n = writtenTo ns (start batch n)
 -- ---- receive
 
 -- The call on the states that the numbers name.
-abbrev pub call : (ns buffer table piece : List ℕ) → Received End
+abbrev pub call : (ns buffer table piece : List ℕ) → Received (Side End)
 call ns buffer table piece = received accepting (calls (wireIn ns) buffer table) piece
 
 abbrev pub wireOf : Side End → Wire

@@ -17,7 +17,8 @@ use Rattle.wire.specs.Loop.{drive}
 use Rattle.wire.specs.Receive.{End, accepting}
 use Rattle.wire.specs.Batch.{Batch, count, weightAt, Item, message, messages, Frames, has, hasClose, arrivedCount, due}
 use Rattle.wire.specs.Demand3.{Delivery, Premises, started, hand, run, Completes, Demand3}
-use Rattle.wire.proofs.Hands.{AlikeTo, drive-same}
+use Rattle.wire.proofs.Again.{AlikeTo}
+use Rattle.wire.proofs.Hands.{Likewise, drive-same}
 use Rattle.wire.proofs.Frames.{saidTo, afterAll, front-more, Within, delivered}
 use Rattle.wire.proofs.Sums.{sum-same}
 use Rattle.wire.proofs.Arrived.{open-held}
@@ -75,7 +76,7 @@ module _ (d : Delivery) (p : Premises d) where
   hands k s t l = record { receivers = l .receivers; lengths = p .same k (s .table) ∙ l .lengths }
 
   -- the table's bytes are not seen
-  pub unseen : AlikeTo accepting Like bads says goes shows (hand d) alone hands (run d) (drive accepting alone 0 (started d) (d .pieces))
+  pub unseen : AlikeTo (Likewise accepting Like bads says goes shows (hand d) alone hands) (run d) (drive accepting alone 0 (started d) (d .pieces))
   unseen =
       drive-same accepting Like bads says goes shows (hand d) alone hands (d .pieces) 0 (started d) (started d)
       (record { decoders = refl; buffers = refl; states = record { receivers = refl; lengths = refl } })

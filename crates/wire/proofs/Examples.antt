@@ -17,8 +17,9 @@ use Rattle.record.specs.Frame.{isBadLength}
 use Rattle.batch.specs.State.{opened, limit, isBad, standTold, standsTold}
 use Rattle.batch.specs.Verdict.{onParticle, onClose, onRead, verdict, after, stored}
 use Rattle.batch.specs.Frame.{takeAll, outcome, acceptTold, acceptNext, acceptTable}
-use Rattle.wire.specs.Loop as loop
-use Rattle.wire.specs.Loop.{Said, received, runIn, drive, joined, framed}
+use Rattle.wire.specs.Again as again
+use Rattle.wire.specs.Again.{Said, joined}
+use Rattle.wire.specs.Loop.{received, framed}
 use Rattle.wire.specs.Receive.{Seen}
 use Rattle.wire.specs.Batch.{Batch, particleAt, sumBelow, InRange, Item, particle, close, message, messages, Frame, Frames}
 use Rattle.wire.specs.Demand3.{Delivery, Premises, run}
@@ -116,5 +117,5 @@ stays-open = demand3 (delivery lost) (met lost framing-lost) .answers
 
 -- the same, computed through the definitions alone
 pub computed : run (delivery came) .said ≡ seen stillOpen 250 1 ∷ seen (missing 1) 250 1 ∷ seen (missing 1) 250 1 ∷ seen complete 1250 2 ∷ []
-unfolding two came cutting delivery drive loop.run runIn received encode encodeIn message sumBelow countBelow bad byteOutcome byteDest further stream.joined pieceOutcome pieceDest pushOutcome pushDest opened limit isBad standTold standsTold markedBelow marked bitAt withBit setMark isBadLength fieldsOf bytesOf fieldsFor recordIn isValid writeTold writtenBytes readOf classOf onParticle onClose onRead verdict after stored takeAll outcome acceptTold acceptNext acceptTable copied
+unfolding two came cutting delivery again.drive again.run again.runIn received encode encodeIn message sumBelow countBelow bad byteOutcome byteDest further stream.joined pieceOutcome pieceDest pushOutcome pushDest opened limit isBad standTold standsTold markedBelow marked bitAt withBit setMark isBadLength fieldsOf bytesOf fieldsFor recordIn isValid writeTold writtenBytes readOf classOf onParticle onClose onRead verdict after stored takeAll outcome acceptTold acceptNext acceptTable copied
 computed = refl

@@ -20,8 +20,10 @@ use Rattle.dec.proofs.Good.{new-good}
 use Rattle.dec.proofs.Pieces.{joined-stop, push-piece, push-cut}
 use Rattle.dec.proofs.Restart.{used-within}
 use Rattle.dec.proofs.Frames.{push-encode, pushDest-encode}
-use Rattle.wire.specs.Loop.{framed, Side, Taker, received, Said, Run, stopped, heard, runIn, drive, joined}
-use Rattle.wire.proofs.Loop.{Good, Alike, alike-sym, alike-trans, keep, byBytes, piece-bytes, heard-alike, drive-bytes}
+use Rattle.wire.specs.Again as again
+use Rattle.wire.specs.Again.{Said, Run, stopped, heard, joined}
+use Rattle.wire.specs.Loop.{framed, Side, Taker, received, drive}
+use Rattle.wire.proofs.Loop.{Good, Alike, alike-sym, alike-trans, keep, runIn, byBytes, piece-bytes, heard-alike, drive-bytes}
 
 -- the front of an encoding, from a new decoder: the piece is used up
 pub front-more : (m s later : List ℕ) (room : ℕ) → length m ≤ room → s ++ later ≡ encode m → isMore (pushOutcome new room s) ≡ true
@@ -70,9 +72,9 @@ module _ {S View : Type 0} (taker : Taker S View) (Fine : S → Type 0) (fit : (
       rw (new-good (length buffer), fit s h, push-encode m t (length buffer) l, pushDest-encode m t buffer, over-fits m buffer l, take-at m (drop (length m) buffer) (length m) refl)
 
   run-step : (n k : ℕ) (w : Side S) (p : List ℕ) → 0 < length p
-      → runIn taker (keep taker Fine fit keeps) (suc n) k w p
-      ≡ heard (received taker w p .answer) (taker .shows (received taker w p .side .state)) (runIn taker (keep taker Fine fit keeps) n (suc k) (received taker w p .side) (drop (received taker w p .consumed) p))
-  unfolding runIn
+      → runIn taker Fine fit keeps (suc n) k w p
+      ≡ heard (received taker w p .answer) (taker .shows (received taker w p .side .state)) (runIn taker Fine fit keeps n (suc k) (received taker w p .side) (drop (received taker w p .consumed) p))
+  unfolding again.runIn
   run-step n k w [] h = absurd (not-suc-le-zero h)
   run-step n k w (b ∷ p) h = refl
 
@@ -86,17 +88,17 @@ module _ {S View : Type 0} (taker : Taker S View) (Fine : S → Type 0) (fit : (
       let w : Side S = waiting buffer s in
       let v : Side S = waiting (over m buffer) (taker .after s m) in
       let r : received taker w p ≡ record { side = v; answer = taker .says s m; consumed = length (encode m) + 1 } = received-frame buffer s h m t l in
-      let whole : runIn taker (keep taker Fine fit keeps) (suc n) 0 w p ≡ heard (taker .says s m) (taker .shows (taker .after s m)) (runIn taker (keep taker Fine fit keeps) n 1 v t) =
+      let whole : runIn taker Fine fit keeps (suc n) 0 w p ≡ heard (taker .says s m) (taker .shows (taker .after s m)) (runIn taker Fine fit keeps n 1 v t) =
       run-step n 0 w p (omega (arith, length-append (encode m) (0 ∷ t)))
       ∙ rw (r, drop-past (encode m) t) in
       alike-trans taker Fine fit keeps
       (alike-sym taker Fine fit keeps (piece-bytes taker Fine fit keeps p (suc n) 0 w (waiting-good buffer s h) (omega arith)))
       (rw whole
-      (heard-alike taker Fine fit keeps (taker .says s m) (taker .shows (taker .after s m)) (runIn taker (keep taker Fine fit keeps) n 1 v t) (byBytes taker Fine fit keeps v t)
+      (heard-alike taker Fine fit keeps (taker .says s m) (taker .shows (taker .after s m)) (runIn taker Fine fit keeps n 1 v t) (byBytes taker Fine fit keeps v t)
       (piece-bytes taker Fine fit keeps t n 1 v (waiting-good (over m buffer) (taker .after s m) (keeps s m h)) (omega (arith, length-append (encode m) (0 ∷ t))))))
 
-  run-none : (n k : ℕ) (w : Side S) → runIn taker (keep taker Fine fit keeps) n k w [] ≡ stopped k w
-  unfolding runIn
+  run-none : (n k : ℕ) (w : Side S) → runIn taker Fine fit keeps n k w [] ≡ stopped k w
+  unfolding again.runIn
   run-none zero k w = refl
   run-none (suc n) k w = refl
 
@@ -117,12 +119,12 @@ module _ {S View : Type 0} (taker : Taker S View) (Fine : S → Type 0) (fit : (
       let o : Outcome = pushOutcome new (length buffer) p in
       let w : Side S = waiting buffer s in
       let v : Side S = record { decoder = o .next; buffer = pushDest new p buffer; state = s } in
-      let whole : runIn taker (keep taker Fine fit keeps) (suc (length p)) 0 w p ≡ stopped 1 v =
+      let whole : runIn taker Fine fit keeps (suc (length p)) 0 w p ≡ stopped 1 v =
       run-step (length p) 0 w p (suc-le-suc zero-le)
       ∙ rw (received-front buffer s h p o refl (eqb-true (o .answer .number) 14 e), drop-length p) (run-none (length p) 1 v) in
-      let a : Alike taker Fine fit keeps (runIn taker (keep taker Fine fit keeps) (suc (length p)) 0 w p) (byBytes taker Fine fit keeps w p) =
+      let a : Alike taker Fine fit keeps (runIn taker Fine fit keeps (suc (length p)) 0 w p) (byBytes taker Fine fit keeps w p) =
       piece-bytes taker Fine fit keeps p (suc (length p)) 0 w (waiting-good buffer s h) (omega arith) in
-      (sym (a .said) ∙ ap (λ (r : Run S View). r .said) whole, ap (λ (x : Side S). x .state) (sym (a .side)) ∙ ap (λ (r : Run S View). r .side .state) whole)
+      (sym (a .said) ∙ ap (λ (r : Run (Side S) View). r .said) whole, ap (λ (x : Side S). x .state) (sym (a .side)) ∙ ap (λ (r : Run (Side S) View). r .side .state) whole)
 
   -- Whole frames, and the front of one more: an answer for each frame, in order, and no other.
   abbrev pub Within : (room : ℕ) (messages : List (List ℕ)) → Type 0

@@ -10,7 +10,9 @@ use Rattle.cobs.specs.Answers.{Told, more, isDone}
 use Rattle.dec.specs.Stream.{Outcome, goes, bad, pushOutcome, pushDest}
 use Rattle.dec.specs.declared.stream.CobsDecoder.{CobsDecoder}
 use Rattle.dec.proofs.Cases.{by-bool}
-use Rattle.wire.specs.Loop.{Side, Received, Taker, handOn, received, Said, Run, heard, called, runIn, run, drive}
+use Rattle.wire.specs.Loop.{Side, Taker, handOn, received, called, seen, drive}
+use Rattle.wire.proofs.Again as again
+use Rattle.wire.proofs.Again.{Same, AlikeTo, Each}
 
 -- Two takers' states that answer alike, whatever each caller does to its own before a call.
 module _ {S View : Type 0} (taker : Taker S View) (like : S → S → Type 0)
@@ -25,15 +27,10 @@ module _ {S View : Type 0} (taker : Taker S View) (like : S → S → Type 0)
     pub states : like (w .state) (v .state)
 
   -- one call
-  record Same (r s : Received S) : Type 0 where
-    answers : r .answer ≡ s .answer
-    takings : r .consumed ≡ s .consumed
-    sides : Likewise (r .side) (s .side)
-
   abbrev side : CobsDecoder → List ℕ → S → Side S
   side d buffer s = record { decoder = d; buffer = buffer; state = s }
 
-  hand-same : (o : Outcome) (buffer : List ℕ) (s t : S) → like s t → (p : List ℕ) → Same (handOn taker o buffer s p) (handOn taker o buffer t p)
+  hand-same : (o : Outcome) (buffer : List ℕ) (s t : S) → like s t → (p : List ℕ) → Same Likewise (handOn taker o buffer s p) (handOn taker o buffer t p)
   hand-same o buffer s t l p =
       by-bool (isDone (o .answer))
       (λ e.
@@ -46,7 +43,7 @@ module _ {S View : Type 0} (taker : Taker S View) (like : S → S → Type 0)
       (λ e. rw e (record { answers = refl; takings = refl; sides = record { decoders = refl; buffers = refl; states = l } }))
 
   received-same : (d : CobsDecoder) (buffer : List ℕ) (s t : S) → like s t → (p : List ℕ)
-      → Same (received taker (side d buffer s) p) (received taker (side d buffer t) p)
+      → Same Likewise (received taker (side d buffer s) p) (received taker (side d buffer t) p)
   unfolding received
   received-same d buffer s t l p =
       rw (bads s t l)
@@ -54,35 +51,16 @@ module _ {S View : Type 0} (taker : Taker S View) (like : S → S → Type 0)
       (λ e. rw e (record { answers = refl; takings = refl; sides = record { decoders = refl; buffers = refl; states = l } }))
       (λ e. rw e (hand-same (pushOutcome d (length buffer) p) (pushDest d p buffer) s t l p)))
 
-  called-same : (k : ℕ) (w v : Side S) → Likewise w v → (p : List ℕ) → Same (called taker hand k w p) (called taker hand′ k v p)
+  called-same : (k : ℕ) (w v : Side S) → Likewise w v → (p : List ℕ) → Same Likewise (called taker hand k w p) (called taker hand′ k v p)
   called-same k w v l p =
       rw (← l .decoders, ← l .buffers) (received-same (w .decoder) (w .buffer) (hand k (w .state)) (hand′ k (v .state)) (hands k (w .state) (v .state) (l .states)) p)
 
-  -- a run of calls
-  pub record AlikeTo (r s : Run S View) : Type 0 where
-    pub said : r .said ≡ s .said
-    pub calls : r .calls ≡ s .calls
-    pub sides : Likewise (r .side) (s .side)
+  -- calls again and again
+  any-piece : (ps : List (List ℕ)) → Each (λ p. Unit {0}) ps
+  any-piece [] = tt
+  any-piece (p ∷ ps) = (tt, any-piece ps)
 
-  heard-same : (t : Told) (v : View) (r s : Run S View) → AlikeTo r s → AlikeTo (heard t v r) (heard t v s)
-  heard-same t v r s a =
-      by-bool (eqb (t .number) (more .number)) (λ e. rw e a)
-      (λ e. rw e (record { said = ap (λ (l : List (Said View)). record { answer = t; shown = v } ∷ l) (a .said); calls = a .calls; sides = a .sides }))
-
-  run-same : (n k : ℕ) (w v : Side S) → Likewise w v → (p : List ℕ) → AlikeTo (runIn taker hand n k w p) (runIn taker hand′ n k v p)
-  unfolding runIn
-  run-same zero k w v l p = record { said = refl; calls = refl; sides = l }
-  run-same (suc n) k w v l [] = record { said = refl; calls = refl; sides = l }
-  run-same (suc n) k w v l (b ∷ p) =
-      let c : Same (called taker hand k w (b ∷ p)) (called taker hand′ k v (b ∷ p)) = called-same k w v l (b ∷ p) in
-      rw (c .answers, c .takings, shows (called taker hand k w (b ∷ p) .side .state) (called taker hand′ k v (b ∷ p) .side .state) (c .sides .states))
-      (heard-same (called taker hand′ k v (b ∷ p) .answer) (taker .shows (called taker hand′ k v (b ∷ p) .side .state)) _ _
-      (run-same n (suc k) (called taker hand k w (b ∷ p) .side) (called taker hand′ k v (b ∷ p) .side) (c .sides) (drop (called taker hand′ k v (b ∷ p) .consumed) (b ∷ p))))
-
-  pub drive-same : (ps : List (List ℕ)) (k : ℕ) (w v : Side S) → Likewise w v → AlikeTo (drive taker hand k w ps) (drive taker hand′ k v ps)
-  unfolding drive run
-  drive-same [] k w v l = record { said = refl; calls = refl; sides = l }
-  drive-same (p ∷ ps) k w v l =
-      let a = run-same (length p) k w v l p in
-      let b = drive-same ps (run taker hand k w p .calls) (run taker hand k w p .side) (run taker hand′ k v p .side) (a .sides) in
-      rw (← a .calls) (record { said = ap₂ (λ (x y : List (Said View)). x ++ y) (a .said) (b .said); calls = b .calls; sides = b .sides })
+  pub drive-same : (ps : List (List ℕ)) (k : ℕ) (w v : Side S) → Likewise w v → AlikeTo Likewise (drive taker hand k w ps) (drive taker hand′ k v ps)
+  drive-same ps k w v l =
+      again.drive-same Likewise (λ p. Unit {0}) (λ p n h. tt) (called taker hand) (called taker hand′) (λ k w v l p h. called-same k w v l p) (seen taker hand)
+      (seen taker hand′) (λ w v l. shows (w .state) (v .state) (l .states)) ps (any-piece ps) k w v l

@@ -1,3 +1,4 @@
+pub mod Again
 pub mod Loop
 pub mod Hands
 pub mod Frames

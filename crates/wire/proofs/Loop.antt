@@ -18,7 +18,9 @@ use Rattle.dec.specs.declared.stream.CobsDecoder.{CobsDecoder}
 use Rattle.dec.proofs.Cases.{by-bool}
 use Rattle.dec.proofs.Good.{good-of, of-good, good-byte, push-good}
 use Rattle.dec.proofs.Pieces.{length-byte, length-piece, piece-goes, piece-stops, dest-goes, dest-stops, byte-goes, further-keeps, further-counts, push-piece, pushDest-piece}
-use Rattle.wire.specs.Loop.{Side, Received, Taker, handOn, received, Said, Run, stopped, heard, andThen, runIn, run, drive, joined}
+use Rattle.wire.specs.Again as again
+use Rattle.wire.specs.Again.{Received, Said, Run, stopped, heard, andThen, joined}
+use Rattle.wire.specs.Loop.{Side, Taker, handOn, received, called, seen, run, drive}
 
 -- ---- one byte and the rest of a piece
 
@@ -66,7 +68,7 @@ module _ {S View : Type 0} (taker : Taker S View) (Fine : S → Type 0) (fit : (
       })
 
   -- the same call, with one more byte before what it took
-  abbrev later : Received S → Received S
+  abbrev later : Received (Side S) → Received (Side S)
   later r = record { side = r .side; answer = r .answer; consumed = suc (r .consumed) }
 
   hand-further : (o : Outcome) (buffer : List ℕ) (s : S) (b : ℕ) (p : List ℕ) → handOn taker (further 1 o) buffer s (b ∷ p) ≡ later (handOn taker o buffer s p)
@@ -119,13 +121,16 @@ module _ {S View : Type 0} (taker : Taker S View) (Fine : S → Type 0) (fit : (
   abbrev pub keep : ℕ → S → S
   keep k s = s
 
+  abbrev pub runIn : (n k : ℕ) → Side S → List ℕ → Run (Side S) View
+  runIn n k w p = again.runIn (called taker keep) (seen taker keep) n k w p
+
   -- what is left of a piece after a call is shorter
   rest-shorter : (w : Side S) → Good w → (b : ℕ) (p : List ℕ) → length (drop (received taker w (b ∷ p) .consumed) (b ∷ p)) ≤ length p
   rest-shorter w g b p = omega (arith, length-drop (received taker w (b ∷ p) .consumed) (b ∷ p), takes w g b p)
 
   -- any count that is large enough gives the same
-  enough : (n m k : ℕ) (w : Side S) → Good w → (p : List ℕ) → length p ≤ n → length p ≤ m → runIn taker keep n k w p ≡ runIn taker keep m k w p
-  unfolding runIn
+  enough : (n m k : ℕ) (w : Side S) → Good w → (p : List ℕ) → length p ≤ n → length p ≤ m → runIn n k w p ≡ runIn m k w p
+  unfolding again.runIn
   enough zero zero k w g [] h l = refl
   enough zero (suc m) k w g [] h l = refl
   enough (suc n) zero k w g [] h l = refl
@@ -133,22 +138,22 @@ module _ {S View : Type 0} (taker : Taker S View) (Fine : S → Type 0) (fit : (
   enough zero m k w g (b ∷ p) h l = absurd (not-suc-le-zero h)
   enough (suc n) zero k w g (b ∷ p) h l = absurd (not-suc-le-zero l)
   enough (suc n) (suc m) k w g (b ∷ p) h l =
-      let r : Received S = received taker w (b ∷ p) in
+      let r : Received (Side S) = received taker w (b ∷ p) in
       ap (heard (r .answer) (taker .shows (r .side .state)))
       (enough n m (suc k) (r .side) (received-good w g (b ∷ p)) (drop (r .consumed) (b ∷ p)) (omega (arith, rest-shorter w g b p)) (omega (arith, rest-shorter w g b p)))
 
   -- Two runs said the same and left the same; how many calls they took may differ.
-  pub record Alike (r s : Run S View) : Type 0 where
+  pub record Alike (r s : Run (Side S) View) : Type 0 where
     pub said : r .said ≡ s .said
     pub side : r .side ≡ s .side
 
   -- each byte a piece of its own
-  unfoldable pub byBytes : Side S → (bytes : List ℕ) → Run S View
+  unfoldable pub byBytes : Side S → (bytes : List ℕ) → Run (Side S) View
   byBytes w [] = stopped 0 w
   byBytes w (b ∷ p) =
       heard (received taker w (b ∷ []) .answer) (taker .shows (received taker w (b ∷ []) .side .state)) (byBytes (received taker w (b ∷ []) .side) p)
 
-  pub heard-alike : (t : Told) (v : View) (r s : Run S View) → Alike r s → Alike (heard t v r) (heard t v s)
+  pub heard-alike : (t : Told) (v : View) (r s : Run (Side S) View) → Alike r s → Alike (heard t v r) (heard t v s)
   heard-alike t v r s a =
       by-bool (eqb (t .number) (more .number)) (λ e. rw e a)
       (λ e. rw e (record { said = ap (λ (l : List (Said View)). record { answer = t; shown = v } ∷ l) (a .said); side = a .side }))
@@ -163,19 +168,19 @@ module _ {S View : Type 0} (taker : Taker S View) (Fine : S → Type 0) (fit : (
   unfolding byBytes
   byBytes-goes w g b p e = rw (received-goes w g b [] e, received-none (past w b) (past-good w g b))
 
-  pub alike-refl : (r : Run S View) → Alike r r
+  pub alike-refl : (r : Run (Side S) View) → Alike r r
   alike-refl r = record { said = refl; side = refl }
 
-  pub alike-sym : {r s : Run S View} → Alike r s → Alike s r
+  pub alike-sym : {r s : Run (Side S) View} → Alike r s → Alike s r
   alike-sym a = record { said = sym (a .said); side = sym (a .side) }
 
-  pub alike-trans : {r s t : Run S View} → Alike r s → Alike s t → Alike r t
+  pub alike-trans : {r s t : Run (Side S) View} → Alike r s → Alike s t → Alike r t
   alike-trans a b = record { said = a .said ∙ b .said; side = a .side ∙ b .side }
 
   -- and a run goes on from the byte after it
   run-goes : (w : Side S) → Good w → (b : ℕ) (p : List ℕ) (n k : ℕ) → length p ≤ n → isMore (byteOutcome (w .decoder) (length (w .buffer)) b) ≡ true
-      → Alike (runIn taker keep (suc n) k w (b ∷ p)) (runIn taker keep n k (past w b) p)
-  unfolding runIn
+      → Alike (runIn (suc n) k w (b ∷ p)) (runIn n k (past w b) p)
+  unfolding again.runIn
   run-goes w g b [] zero k h e =
       rw (received-goes w g b [] e, received-none (past w b) (past-good w g b)) (record { said = refl; side = refl })
   run-goes w g b [] (suc n) k h e =
@@ -183,16 +188,16 @@ module _ {S View : Type 0} (taker : Taker S View) (Fine : S → Type 0) (fit : (
   run-goes w g b (c ∷ p) zero k h e = absurd (not-suc-le-zero h)
   run-goes w g b (c ∷ p) (suc n) k h e =
       let v : Side S = past w b in
-      let r : Received S = received taker v (c ∷ p) in
+      let r : Received (Side S) = received taker v (c ∷ p) in
       rw (received-goes w g b (c ∷ p) e)
       (heard-alike (r .answer) (taker .shows (r .side .state)) _ _
-      (subst (λ (s : Run S View). Alike s (runIn taker keep n (suc k) (r .side) (drop (r .consumed) (c ∷ p))))
+      (subst (λ (s : Run (Side S) View). Alike s (runIn n (suc k) (r .side) (drop (r .consumed) (c ∷ p))))
       (enough n (suc n) (suc k) (r .side) (received-good v (past-good w g b) (c ∷ p)) (drop (r .consumed) (c ∷ p)) (omega (arith, rest-shorter v (past-good w g b) c p)) (omega (arith, rest-shorter v (past-good w g b) c p)))
       (alike-refl _)))
 
   -- A piece in one call after another says and leaves what its bytes one by one do.
-  pub piece-bytes : (p : List ℕ) (n k : ℕ) (w : Side S) → Good w → length p ≤ n → Alike (runIn taker keep n k w p) (byBytes w p)
-  unfolding runIn byBytes
+  pub piece-bytes : (p : List ℕ) (n k : ℕ) (w : Side S) → Good w → length p ≤ n → Alike (runIn n k w p) (byBytes w p)
+  unfolding again.runIn byBytes
   piece-bytes [] zero k w g h = record { said = refl; side = refl }
   piece-bytes [] (suc n) k w g h = record { said = refl; side = refl }
   piece-bytes (b ∷ p) zero k w g h = absurd (not-suc-le-zero h)
@@ -210,7 +215,7 @@ module _ {S View : Type 0} (taker : Taker S View) (Fine : S → Type 0) (fit : (
   unfolding byBytes
   bytes-good [] w g = g
   bytes-good (b ∷ p) w g =
-      let r : Received S = received taker w (b ∷ []) in
+      let r : Received (Side S) = received taker w (b ∷ []) in
       by-bool (eqb (r .answer .number) (more .number))
       (λ e. rw e (bytes-good p (r .side) (received-good w g (b ∷ []))))
       (λ e. rw e (bytes-good p (r .side) (received-good w g (b ∷ []))))
@@ -220,16 +225,16 @@ module _ {S View : Type 0} (taker : Taker S View) (Fine : S → Type 0) (fit : (
   unfolding byBytes
   bytes-append [] q w = record { said = refl; side = refl }
   bytes-append (b ∷ p) q w =
-      let r : Received S = received taker w (b ∷ []) in
+      let r : Received (Side S) = received taker w (b ∷ []) in
       let a : Alike (byBytes (r .side) (p ++ q)) (andThen (byBytes (r .side) p) (λ k v. byBytes v q)) = bytes-append p q (r .side) in
       by-bool (eqb (r .answer .number) (more .number)) (λ e. rw e a) (λ e. rw e (record { said = ap (λ (l : List (Said View)). record { answer = r .answer; shown = taker .shows (r .side .state) } ∷ l) (a .said); side = a .side }))
 
   -- A drive over pieces says and leaves what their bytes one by one do.
   pub drive-bytes : (ps : List (List ℕ)) (k : ℕ) (w : Side S) → Good w → Alike (drive taker keep k w ps) (byBytes w (joined ps))
-  unfolding drive run byBytes
+  unfolding again.drive again.run byBytes
   drive-bytes [] k w g = record { said = refl; side = refl }
   drive-bytes (p ∷ ps) k w g =
-      let r : Run S View = run taker keep k w p in
+      let r : Run (Side S) View = run taker keep k w p in
       let a : Alike r (byBytes w p) = piece-bytes p (length p) k w g (le-refl (length p)) in
       let go : Good (r .side) = subst Good (sym (a .side)) (bytes-good p w g) in
       let rest : Alike (drive taker keep (r .calls) (r .side) ps) (byBytes (r .side) (joined ps)) = drive-bytes ps (r .calls) (r .side) go in

@@ -8,8 +8,8 @@ use Rattle.cobs.specs.Answers.{Told}
 use Rattle.cobs.proofs.Told.{same-told}
 use Rattle.dec.specs.declared.stream.CobsDecoder.{CobsDecoder}
 use Rattle.batch.specs.declared.Receiver.{Receiver}
-use Rattle.wire.specs.Loop as loop
-use Rattle.wire.specs.Loop.{received}
+use Rattle.wire.specs.Again as again
+use Rattle.wire.specs.Loop.{Side, received}
 use Rattle.wire.specs.Receive.{End, accepting}
 use Rattle.wire.specs.Call.{toldReceived, start, calls, leaves}
 use Rattle.wire.specs.declared.Wire.{Wire}
@@ -70,13 +70,13 @@ pub unique-receive : (w : Wire) (buffer table piece : List ℕ) (a b : Receipt) 
 unfolding made
 unique-receive w buffer table piece a b x y u v p q =
     let e : leaves a x u ≡ leaves b y v = p ∙ sym q in
-    let s : a .answer ≡ b .answer = same-told toldReceived back back-told (ap (λ (r : loop.Received End). r .answer) e) in
+    let s : a .answer ≡ b .answer = same-told toldReceived back back-told (ap (λ (r : again.Received (Side End)). r .answer) e) in
     record {
       receipts =
-          ap (λ (d : CobsDecoder). made d (a .next .receiver) (a .answer) (a .consumed)) (ap (λ (r : loop.Received End). r .side .decoder) e)
-          ∙ ap (λ (r : Receiver). made (b .next .decoder) r (a .answer) (a .consumed)) (ap (λ (r : loop.Received End). r .side .state .receiver) e)
+          ap (λ (d : CobsDecoder). made d (a .next .receiver) (a .answer) (a .consumed)) (ap (λ (r : again.Received (Side End)). r .side .decoder) e)
+          ∙ ap (λ (r : Receiver). made (b .next .decoder) r (a .answer) (a .consumed)) (ap (λ (r : again.Received (Side End)). r .side .state .receiver) e)
           ∙ ap (λ (t : Received). made (b .next .decoder) (b .next .receiver) t (a .consumed)) s
-          ∙ ap (λ (n : ℕ). made (b .next .decoder) (b .next .receiver) (b .answer) n) (ap (λ (r : loop.Received End). r .consumed) e);
-      buffers = ap (λ (r : loop.Received End). r .side .buffer) e;
-      tables = ap (λ (r : loop.Received End). r .side .state .table) e;
+          ∙ ap (λ (n : ℕ). made (b .next .decoder) (b .next .receiver) (b .answer) n) (ap (λ (r : again.Received (Side End)). r .consumed) e);
+      buffers = ap (λ (r : again.Received (Side End)). r .side .buffer) e;
+      tables = ap (λ (r : again.Received (Side End)). r .side .state .table) e;
     }

@@ -13,7 +13,7 @@ use Rattle.marks.specs.Marks.{countBelow}
 use Rattle.record.specs.Record.{writtenBytes}
 use Rattle.record.specs.declared.Record.{Record}
 use Rattle.record.specs.declared.Record.the-variants as kind
-use Rattle.wire.specs.Loop.{Said}
+use Rattle.wire.specs.Again.{Said}
 use Rattle.wire.specs.Receive.{Seen}
 
 -- ---- The batch

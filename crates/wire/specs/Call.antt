@@ -4,7 +4,7 @@ use Prim.Native.Nat.{ℕ}
 use Rattle.cobs.specs.Answers.{Told, more, invalidFrame, targetBufTooSmall, badState, badLength, badRecord, stale, ahead, noRoom, beyondClose, conflict, stillOpen, missing, complete, differs}
 use Rattle.dec.specs.Stream.{new}
 use Rattle.batch.specs.State.{opened}
-use Rattle.wire.specs.Loop as loop
+use Rattle.wire.specs.Again as again
 use Rattle.wire.specs.Loop.{Side}
 use Rattle.wire.specs.Receive.{End}
 use Rattle.wire.specs.declared.Wire.{Wire}
@@ -39,6 +39,6 @@ calls w buffer table =
     record { decoder = w .decoder; buffer = buffer; state = record { receiver = w .receiver; table = table } }
 
 -- What it leaves and answers.
-abbrev pub leaves : Receipt → (buffer table : List ℕ) → loop.Received End
+abbrev pub leaves : Receipt → (buffer table : List ℕ) → again.Received (Side End)
 leaves r buffer table =
     record { side = calls (r .next) buffer table; answer = toldReceived (r .answer); consumed = r .consumed }

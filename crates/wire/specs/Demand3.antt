@@ -8,7 +8,8 @@ use Rattle.cobs.specs.Answers.{complete}
 use Rattle.cobs.specs.Code.{encode}
 use Rattle.dec.specs.Stream.{new}
 use Rattle.batch.specs.State.{opened}
-use Rattle.wire.specs.Loop.{Side, Run, drive, joined, framed}
+use Rattle.wire.specs.Again.{Run, joined}
+use Rattle.wire.specs.Loop.{Side, drive, framed}
 use Rattle.wire.specs.Receive.{End, Seen, accepting}
 use Rattle.wire.specs.Batch.{Batch, count, particleAt, total, InRange, Item, message, messages, Frame, Frames, has, hasClose, arrivedCount, arrivedTotal, due, expectedAll}
 
@@ -68,7 +69,7 @@ hand d k e = record { receiver = e .receiver; table = d .handed k (e .table) }
 
 -- "Every call gets those same bytes, that same table and the states the call before it left; each decoded frame goes to the
 -- receiver first, then the rest of its piece to the decoder."
-abbrev pub run : Delivery → Run End Seen
+abbrev pub run : Delivery → Run (Side End) Seen
 run d = drive accepting (hand d) 0 (started d) (d .pieces)
 
 -- "It answers Complete exactly if the close and all N arrived, and then both ends hold equal count and total."

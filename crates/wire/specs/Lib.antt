@@ -1,4 +1,5 @@
 -- What a reader must believe of the wire, in reading order. Definitions only; their laws are in proofs/.
+pub mod Again
 pub mod Loop
 pub mod Receive
 pub mod Call
