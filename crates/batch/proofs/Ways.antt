@@ -11,13 +11,14 @@ use denote.Enum.Declared.{tagOf}
 use borrow.Author.Tests.{eq-eqb, ne-eqb, lt-ltb, le-ltb, le-leb, lt-leb}
 use Rattle.cobs.specs.Answers.{Told}
 use Rattle.marks.specs.Marks.{marked, markedBelow}
-use Rattle.record.specs.Record.{classOf}
+use Rattle.record.specs.Record.{classOf, toldClass}
 use Rattle.record.specs.declared.Record.{Record}
 use Rattle.record.specs.declared.Record.the-variants as kind
 use Rattle.record.specs.declared.ReadAnswer.{ReadAnswer}
 use Rattle.record.specs.declared.ReadAnswer.the-variants as read
 use Rattle.record.specs.declared.Class.{Class}
 use Rattle.record.specs.declared.Class.the-variants as class
+use Rattle.record.proofs.Valid.{class-told}
 use Rattle.record.proofs.ReadAnswer as read-answer
 use Rattle.batch.specs.State.{roomFor, limit, isBad, toldStanding, standTold, standsTold}
 use Rattle.batch.specs.Verdict.{onParticle, onClose, onOurs, batchIn, onRead}
@@ -179,9 +180,9 @@ module _ (k : ℕ) (r : Receiver) (a found : ReadAnswer) (ea : a ≡ found) wher
   unfolding onRead
   judge-bad o = simp (← ea, is-bad a o)
 
-  module _ (item : Record) (e : a ≡ read.Good item) (b : ℕ) (eb : b ≡ batchIn item) (c : Class) (ec : c ≡ classOf b (r .batch)) where
+  module _ (item : Record) (e : a ≡ read.Good item) (b : ℕ) (eb : b ≡ batchIn item) (c : Class) (ec : toldClass c ≡ toldClass (classOf b (r .batch))) where
     class-is : classOf (batchIn item) (r .batch) ≡ c
-    class-is = sym (ec ∙ ap (λ (x : ℕ). classOf x (r .batch)) eb)
+    class-is = sym (class-told c (classOf b (r .batch)) ec ∙ ap (λ (x : ℕ). classOf x (r .batch)) eb)
 
     pub judge-ahead : c ≡ class.Ahead → Refuse (Ahead k) ≡ onRead k r found
     unfolding onRead

@@ -11,14 +11,15 @@ use types.Run.{OneOf, miss}
 use denote.Enum.Declared.{tagOf}
 use borrow.Author.Tests.{eq-eqb, ne-eqb, lt-ltb, le-ltb, ltb-false, eqb-true, eqb-false, not-false}
 use Rattle.cobs.specs.Words.{if_then_else_, _exceeds_}
-use Rattle.cobs.specs.Answers.{badRecord, isDone}
-use Rattle.record.specs.Record.{readOf, toldRead}
+use Rattle.cobs.specs.Answers.{badRecord}
+use Rattle.record.specs.Record.{isRecord, readOf}
 use Rattle.record.specs.Frame.{isBadLength, recordsTold, toldChecked}
 use Rattle.record.specs.declared.Record.{Record}
 use Rattle.record.specs.declared.ReadAnswer.{ReadAnswer}
 use Rattle.record.specs.declared.ReadAnswer.the-variants as read
 use Rattle.record.specs.declared.frame.Checked.the-variants.{AllGood, BadRecord}
 use Rattle.record.proofs.ReadAnswer.{the-type}
+use Rattle.record.proofs.Round.{read-is, read-not}
 
 -- ---- the length
 
@@ -73,7 +74,7 @@ left-all m = record { within = omega arith; even = refl; told = ap (λ (n : ℕ)
 
 turn : (m : List ℕ) (at : ℕ) → at < length m → at % 16 ≡ 0 → length m % 16 ≡ 0
     → recordsTold 16 ((length m - at) / 16) (at / 16) (drop at m)
-    ≡ (if isDone (toldRead (readOf 0 (drop at m))) then recordsTold 16 ((length m - (at + 16)) / 16) ((at + 16) / 16) (drop (at + 16) m) else badRecord (at / 16))
+    ≡ (if isRecord 0 (drop at m) then recordsTold 16 ((length m - (at + 16)) / 16) ((at + 16) / 16) (drop (at + 16) m) else badRecord (at / 16))
 unfolding recordsTold
 turn m at h a l =
     let n : (length m - at) / 16 ≡ suc ((length m - (at + 16)) / 16) = omega arith in
@@ -87,11 +88,11 @@ module _ (m : List ℕ) (at : ℕ) (c : Left m at) (h : at < length m) (l : leng
       record {
         within = omega arith;
         even = omega arith;
-        told = c .told ∙ turn m at h v l ∙ rw (sym ea ∙ e);
+        told = c .told ∙ turn m at h v l ∙ rw (read-is (drop at m) r (sym ea ∙ e));
       }
 
   pub left-bad : OneOf (1 ∷ []) (tagOf the-type a) → toldChecked (BadRecord (at / 16)) ≡ recordsTold 16 (length m / 16) 0 m
-  left-bad o = sym (c .told ∙ turn m at h (c .even) l ∙ rw (sym ea ∙ bad a o))
+  left-bad o = sym (c .told ∙ turn m at h (c .even) l ∙ rw (read-not (drop at m) (sym ea ∙ bad a o)))
     where
       bad : (a : ReadAnswer) → OneOf (1 ∷ []) (tagOf the-type a) → a ≡ read.BadRecord
       bad (read.Good r) o = absurd (miss (1 ∷ []) 0 tt o)

@@ -1,19 +1,21 @@
 -- The round trip: a record that is written is read back, and one that is read is written back the same. Assumes nothing.
 use mathlib.Core.Path.{_≡_, refl, sym, ap, ap₂, _∙_}
-use mathlib.Core.Bool.{Bool, true, false}
+use mathlib.Core.Bool.{Bool, true, false, _&&_, true≢false}
 use mathlib.Core.List.{List, [], _∷_, _++_}
 use Prim.Native.Nat.{ℕ, suc, _+_, _-_, _*_, _/_, _%_, _≤_, _<_}
 use native.Mathlib.Nat.{zero-add, add-mul-mod-self-left, add-mul-div-left, mod-eq-of-lt, div-eq-of-lt}
 use native.Mathlib.Decide.{decLt}
 use native.Mathlib.Omega.{arith}
 use lib.IntN.{ℤ, pos, negsuc}
+use lib.Dec.{leb}
 use lib.ListN.{length, getD, take, drop}
+use borrow.Author.Tests.{le-leb, leb-true}
 use lib.Seq.{drop-cons}
 use lib.Signed.{mag}
 use Rattle.cobs.specs.Words.{if_then_else_}
 use Rattle.cobs.specs.Answers.{done, badRecord}
 use Rattle.cobs.proofs.Told.{unlike}
-use Rattle.record.specs.Record.{bytes16, bytes32, bits, signed, fieldsOf, bytesOf, fieldsFor, recordIn, isValid, writeTold, writtenBytes, readOf}
+use Rattle.record.specs.Record.{bytes16, bytes32, bits, signed, fieldsOf, bytesOf, fieldsFor, recordIn, isValid, writeTold, writtenBytes, isRecord, readOf}
 use Rattle.record.specs.declared.Fields.{Fields}
 use Rattle.record.specs.declared.Record.{Record}
 use Rattle.record.specs.declared.Record.the-variants.{Particle, Close}
@@ -82,6 +84,11 @@ unfolding fieldsOf bytesOf
 fields-bytes f t h =
     rw (two (f .batch) (h .batch), two (f .index) (h .index), two (f .x) (h .x), two (f .y) (h .y), two (f .z) (h .z), four (f .weight) (h .weight))
 
+-- they are sixteen
+whole-bytes : (f : Fields) (t : List ℕ) → leb 16 (length (bytesOf f ++ t)) ≡ true
+unfolding bytesOf
+whole-bytes f t = le-leb 16 (length (bytesOf f ++ t)) (omega arith)
+
 small : {r : Record} → Holds r → Small (fieldsFor 0 r)
 unfolding fieldsFor
 small (particle b i x y z w hb hi hx hy hz hw) =
@@ -98,21 +105,46 @@ was-valid true e = refl
 was-valid false e = absurd (unlike e (omega arith))
 
 pub read-written : (r : Record) (t : List ℕ) → Holds r → writeTold 0 r ≡ done 0 0 → readOf 0 (writtenBytes 0 r ++ t) ≡ Good r
-unfolding writeTold writtenBytes readOf
+unfolding writeTold writtenBytes isRecord readOf
 read-written r t h e =
     let ok : isValid 0 (fieldsFor 0 r) ≡ true = was-valid (isValid 0 (fieldsFor 0 r)) e in
-    rw (ok, fields-bytes (fieldsFor 0 r) t (small h), ok, record-fields h)
+    rw (ok, whole-bytes (fieldsFor 0 r) t, fields-bytes (fieldsFor 0 r) t (small h), ok, record-fields h)
 
 -- ---- from the bytes to a record and back
 
-pub read-says : (s : List ℕ) (r : Record) → readOf 0 s ≡ Good r → (isValid 0 (fieldsOf s) ≡ true) × (recordIn (fieldsOf s) ≡ r)
+-- what is read as a record is one
+pub read-is : (s : List ℕ) (r : Record) → readOf 0 s ≡ Good r → isRecord 0 s ≡ true
 unfolding readOf
-read-says s r e = go (isValid 0 (fieldsOf s)) refl e
+read-is s r e = go (isRecord 0 s) e
   where
-    go : (ok : Bool) → isValid 0 (fieldsOf s) ≡ ok → (if ok then Good (recordIn (fieldsOf s)) else BadRecord) ≡ Good r
-        → (ok ≡ true) × (recordIn (fieldsOf s) ≡ r)
-    go true q e = (refl, cc)
-    go false q e = let z : _≡_ {A = ℕ} 0 1 = cc in absurd (omega arith)
+    go : (ok : Bool) → (if ok then Good (recordIn (fieldsOf s)) else BadRecord) ≡ Good r → ok ≡ true
+    go true e = refl
+    go false e = let z : _≡_ {A = ℕ} 0 1 = cc in absurd (omega arith)
+
+pub read-not : (s : List ℕ) → readOf 0 s ≡ BadRecord → isRecord 0 s ≡ false
+unfolding readOf
+read-not s e = go (isRecord 0 s) e
+  where
+    go : (ok : Bool) → (if ok then Good (recordIn (fieldsOf s)) else BadRecord) ≡ BadRecord → ok ≡ false
+    go true e = let z : _≡_ {A = ℕ} 0 1 = cc in absurd (omega arith)
+    go false e = refl
+
+-- What a record that was read says of its bytes.
+pub record Says (s : List ℕ) (r : Record) : Type 0 where
+  pub whole : 16 ≤ length s
+  pub valid : isValid 0 (fieldsOf s) ≡ true
+  pub item : recordIn (fieldsOf s) ≡ r
+
+both : (a b : Bool) → (a && b) ≡ true → (a ≡ true) × (b ≡ true)
+both true b e = (refl, e)
+both false b e = absurd (true≢false (sym e))
+
+pub read-says : (s : List ℕ) (r : Record) → readOf 0 s ≡ Good r → Says s r
+unfolding isRecord readOf
+read-says s r e =
+    let is = both (leb 16 (length s)) (isValid 0 (fieldsOf s)) (read-is s r e) in
+    let found = rw (is .0, is .1) at e in
+    record { whole = leb-true 16 (length s) (is .0); valid = is .1; item = cc }
 
 alike : (f : Fields) (x y z k b : ℕ) → x ≡ f .x → y ≡ f .y → z ≡ f .z → k ≡ f .kind → b ≡ f .board
     → _≡_ {A = Fields} (record { batch = f .batch; index = f .index; x = x; y = y; z = z; kind = k; board = b; weight = f .weight }) f
@@ -180,19 +212,19 @@ bytes-fields s h l =
     (four-bytes (getD s 12 0) (getD s 13 0) (getD s 14 0) (getD s 15 0) (h 12) (h 13) (h 14) (h 15)))))))
     ∙ sym (sixteen s l)
 
-pub written-read : (s : List ℕ) (r : Record) → Bytes s → 16 ≤ length s → readOf 0 s ≡ Good r
+pub written-read : (s : List ℕ) (r : Record) → Bytes s → readOf 0 s ≡ Good r
     → (writeTold 0 r ≡ done 0 0) × (writtenBytes 0 r ≡ take 16 s)
 unfolding writeTold writtenBytes
-written-read s r h l e =
+written-read s r h e =
     let ok = read-says s r e in
     let same : fieldsFor 0 r ≡ fieldsOf s =
-    ap (fieldsFor 0) (sym (ok .1)) ∙ fields-record (fieldsOf s) (small-fields s h) (valid-says (fieldsOf s) (ok .0)) in
-    (rw (same, ok .0), rw (same, ok .0) (bytes-fields s h l))
+    ap (fieldsFor 0) (sym (ok .item)) ∙ fields-record (fieldsOf s) (small-fields s h) (valid-says (fieldsOf s) (ok .valid)) in
+    (rw (same, ok .valid), rw (same, ok .valid) (bytes-fields s h (ok .whole)))
 
 -- a particle that is read weighs no more than it may
 pub read-weight : (s : List ℕ) {b i : ℕ} {x y z : ℤ} {w : ℕ} → readOf 0 s ≡ Good (Particle b i x y z w) → w ≤ 1000000
 unfolding recordIn
-read-weight s {b} {i} {x} {y} {z} {w} e = go (fieldsOf s) (valid-says (fieldsOf s) (read-says s (Particle b i x y z w) e .0)) (read-says s (Particle b i x y z w) e .1)
+read-weight s {b} {i} {x} {y} {z} {w} e = go (fieldsOf s) (valid-says (fieldsOf s) (read-says s (Particle b i x y z w) e .valid)) (read-says s (Particle b i x y z w) e .item)
   where
     go : (f : Fields) → Valid f → recordIn f ≡ Particle b i x y z w → w ≤ 1000000
     go f (valid.particle ok k light) q =

@@ -8,7 +8,7 @@ use lib.ListN.{length, drop}
 use Rattle.cobs.specs.Words.{if_then_else_}
 use Rattle.cobs.specs.Answers.{Told, isDone}
 use Rattle.cobs.proofs.Told.{one-result}
-use Rattle.record.specs.Record.{toldWrite, writeTold, writtenBytes, readOf, classOf}
+use Rattle.record.specs.Record.{toldWrite, writeTold, writtenBytes, readOf, toldClass, classOf}
 use Rattle.record.specs.Frame.{isBadLength, toldFrame, frameTold, frameDest}
 use Rattle.record.specs.declared.Record.{Record}
 use Rattle.record.specs.declared.Written.{Written}
@@ -18,6 +18,7 @@ use Rattle.record.specs.declared.ReadAnswer.{ReadAnswer}
 use Rattle.record.specs.declared.Class.{Class}
 use Rattle.record.specs.declared.frame.FrameWritten.{FrameWritten}
 use Rattle.record.specs.declared.frame.FrameWritten.the-variants as frame
+use Rattle.record.proofs.Valid.{class-told}
 
 -- ---- reading an answer back from what tells it
 
@@ -55,8 +56,8 @@ unique-write item r s a b c d =
 pub unique-read : (s : List ℕ) (at : ℕ) (a b : ReadAnswer) → a ≡ readOf 0 (drop at s) → b ≡ readOf 0 (drop at s) → a ≡ b
 unique-read s at a b p q = p ∙ sym q
 
-pub unique-class-of : (theirs ours : ℕ) (a b : Class) → a ≡ classOf theirs ours → b ≡ classOf theirs ours → a ≡ b
-unique-class-of theirs ours a b p q = p ∙ sym q
+pub unique-class-of : (theirs ours : ℕ) (a b : Class) → toldClass a ≡ toldClass (classOf theirs ours) → toldClass b ≡ toldClass (classOf theirs ours) → a ≡ b
+unique-class-of theirs ours a b p q = class-told a b (p ∙ sym q)
 
 pub unique-is-bad-length : (n : ℕ) (a b : Bool) → a ≡ isBadLength 16 240 n → b ≡ isBadLength 16 240 n → a ≡ b
 unique-is-bad-length n a b p q = p ∙ sym q

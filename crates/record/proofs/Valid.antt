@@ -7,8 +7,12 @@ use lib.Dec.{eqb, leb}
 use mir.Val.{Fits}
 use mir.Syntax.{w16}
 use borrow.Author.Tests.{eq-eqb, ne-eqb, le-leb, lt-leb, eqb-true, leb-true}
-use Rattle.record.specs.Record.{isParticle, isClose, isValid, classOf}
+use Rattle.cobs.specs.Words.{if_then_else_}
+use Rattle.cobs.specs.Answers.{Told, done, ahead, stale, isDone}
+use Rattle.cobs.proofs.Told.{same-told}
+use Rattle.record.specs.Record.{isParticle, isClose, isValid, classOf, toldClass}
 use Rattle.record.specs.declared.Fields.{Fields}
+use Rattle.record.specs.declared.Class.{Class}
 use Rattle.record.specs.declared.Class.the-variants.{Ours, Ahead, Stale}
 
 pub valid-board : (f : Fields) → (f .board ≡ 0 → ⊥) → false ≡ isValid 0 f
@@ -94,19 +98,32 @@ difference : (t o d : ℕ) → o < 2 ^ 16 → d < 2 ^ 16 → (d + o) % 2 ^ 16 �
 difference t o d ho hd e = omega arith
 
 module _ (t o d : ℕ) (ho : Fits w16 o) (hd : Fits w16 d) (e : (d + o) % 2 ^ 16 ≡ t) where
-  pub class-ours : d ≡ 0 → Ours ≡ classOf t o
+  pub class-ours : d ≡ 0 → done 0 0 ≡ toldClass (classOf t o)
   unfolding classOf
   class-ours z = simp (difference t o d (ho .fits) (hd .fits) e, eq-eqb _ _ z)
 
-  pub class-ahead : (d ≡ 0 → ⊥) → d ≤ 32767 → Ahead ≡ classOf t o
+  pub class-ahead : (d ≡ 0 → ⊥) → d ≤ 32767 → ahead 0 ≡ toldClass (classOf t o)
   unfolding classOf
   class-ahead z l = simp (difference t o d (ho .fits) (hd .fits) e, ne-eqb _ _ z, le-leb _ _ l)
 
-  pub class-stale : (d ≡ 0 → ⊥) → 32767 < d → Stale ≡ classOf t o
+  pub class-stale : (d ≡ 0 → ⊥) → 32767 < d → stale 0 ≡ toldClass (classOf t o)
   unfolding classOf
   class-stale z l = simp (difference t o d (ho .fits) (hd .fits) e, ne-eqb _ _ z, lt-leb _ _ l)
 
 -- our own batch is ours
+-- a class is the one that is told
+backClass : Told → Class
+backClass t = if isDone t then Ours else if eqb (t .number) 10 then Ahead else Stale
+
+class-back : (a : Class) → backClass (toldClass a) ≡ a
+unfolding backClass
+class-back Ours = refl
+class-back Ahead = refl
+class-back Stale = refl
+
+pub class-told : (a b : Class) → toldClass a ≡ toldClass b → a ≡ b
+class-told a b e = same-told toldClass backClass class-back e
+
 pub class-same : (n : ℕ) → n < 65536 → classOf n n ≡ Ours
 unfolding classOf
 class-same n h = rw (eq-eqb ((n + (65536 - n)) % 65536) 0 (omega arith))

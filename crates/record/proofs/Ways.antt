@@ -5,13 +5,14 @@ use mathlib.Core.List.{List}
 use Prim.Native.Nat.{ℕ, _<_}
 use lib.IntN.{ℤ}
 use lib.Signed.{mag}
-use lib.ListN.{replicate}
+use lib.Dec.{leb}
+use lib.ListN.{length, replicate}
 use mir.Syntax.{w16}
 use mir.Val.{toZ, ofZ, SFits}
 use mir.Facts.{toZ-ofZ}
 use borrow.Author.Tests.{eq-eqb, ne-eqb, not-true, not-false}
 use Rattle.cobs.specs.Answers.{done, badRecord}
-use Rattle.record.specs.Record.{bits, signed, fieldsOf, bytesOf, fieldsFor, recordIn, isValid, writeTold, writtenBytes, readOf}
+use Rattle.record.specs.Record.{bits, signed, fieldsOf, bytesOf, fieldsFor, recordIn, isValid, writeTold, writtenBytes, isRecord, readOf, readTold}
 use Rattle.record.specs.declared.Fields.{Fields}
 use Rattle.record.specs.declared.Record.{Record}
 use Rattle.record.specs.declared.Record.the-variants.{Particle, Close}
@@ -19,14 +20,23 @@ use Rattle.record.specs.declared.ReadAnswer.the-variants.{Good, BadRecor
 
 -- ---- the reader
 
-module _ (s : List ℕ) (f : Fields) (ok : Bool) (ef : f ≡ fieldsOf s) (eo : ok ≡ isValid 0 f) where
-  pub read-bad : not ok ≡ true → BadRecord ≡ readOf 0 s
-  unfolding readOf
-  read-bad h = simp (← ef, ← eo, not-true ok h)
+module _ (s : List ℕ) (whole : Bool) (ew : whole ≡ leb 16 (length s)) where
+  pub read-short : not whole ≡ true → (BadRecord ≡ readOf 0 s) × (badRecord 0 ≡ readTold 0 s)
+  unfolding isRecord readOf readTold
+  read-short h = (simp (← ew, not-true whole h), simp (← ew, not-true whole h))
 
-  pub read-good : not ok ≡ false → (r : Record) → r ≡ recordIn f → Good r ≡ readOf 0 s
-  unfolding readOf
-  read-good h r e = simp (← ef, ← eo, not-false ok h, ← e)
+  module _ (h : not whole ≡ false) (f : Fields) (ok : Bool) (ef : f ≡ fieldsOf s) (eo : ok ≡ isValid 0 f) where
+    pub read-bad : not ok ≡ true → (BadRecord ≡ readOf 0 s) × (badRecord 0 ≡ readTold 0 s)
+    unfolding isRecord readOf readTold
+    read-bad n =
+        let w = not-false whole h in
+        (simp (← ew, w, ← ef, ← eo, not-true ok n), simp (← ew, w, ← ef, ← eo, not-true ok n))
+
+    pub read-good : not ok ≡ false → (r : Record) → r ≡ recordIn f → (Good r ≡ readOf 0 s) × (done 0 0 ≡ readTold 0 s)
+    unfolding isRecord readOf readTold
+    read-good n r e =
+        let w = not-false whole h in
+        (simp (← ew, w, ← ef, ← eo, not-false ok n, ← e), simp (← ew, w, ← ef, ← eo, not-false ok n))
 
 -- ---- the writer
 

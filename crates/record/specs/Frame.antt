@@ -7,7 +7,7 @@ use lib.ListN.{length, drop}
 use Rattle.cobs.specs.Words.{if_then_else_, _exceeds_}
 use Rattle.cobs.specs.Code.{encode, over}
 use Rattle.cobs.specs.Answers.{Told, done, destBufTooSmall, badLength, badRecord, isDone, ifDone}
-use Rattle.record.specs.Record.{readOf, toldRead}
+use Rattle.record.specs.Record.{isRecord}
 use Rattle.record.specs.declared.frame.FrameWritten.{FrameWritten}
 use Rattle.record.specs.declared.frame.FrameWritten.the-variants as frame
 use Rattle.record.specs.declared.frame.Checked.{Checked}
@@ -20,8 +20,7 @@ isBadLength size most n = eqb n 0 || (n exceeds most) || not (eqb (n % size) 0)
 -- The first bad one of n records, which m starts with, the first of them number k.
 unfoldable pub recordsTold : (size n k : ℕ) (m : List ℕ) → Told
 recordsTold size zero k m = done 0 0
-recordsTold size (suc n) k m =
-    if isDone (toldRead (readOf 0 m)) then recordsTold size n (suc k) (drop size m) else badRecord k
+recordsTold size (suc n) k m = if isRecord 0 m then recordsTold size n (suc k) (drop size m) else badRecord k
 
 -- The message's refusals, 7 before 8.
 unfoldable pub messageTold : (size most : ℕ) (m : List ℕ) → Told

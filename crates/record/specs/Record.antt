@@ -4,9 +4,9 @@ use mathlib.Core.List.{List, [], _∷_, _++_}
 use Prim.Native.Nat.{ℕ, suc, _+_, _-_, _*_, _/_, _%_}
 use lib.Dec.{eqb, leb}
 use lib.IntN.{ℤ, pos, negsuc}
-use lib.ListN.{getD, replicate}
+use lib.ListN.{length, getD, replicate}
 use Rattle.cobs.specs.Words.{if_then_else_}
-use Rattle.cobs.specs.Answers.{Told, done, badRecord, isDone}
+use Rattle.cobs.specs.Answers.{Told, done, badRecord, stale, ahead, isDone}
 use Rattle.record.specs.declared.Record.{Record}
 use Rattle.record.specs.declared.Record.the-variants.{Particle, Close}
 use Rattle.record.specs.declared.Fields.{Fields}
@@ -102,13 +102,21 @@ writeTold board r = if isValid board (fieldsFor board r) then done 0 0 else badR
 unfoldable pub writtenBytes : (board : ℕ) → Record → List ℕ
 writtenBytes board r = if isDone (writeTold board r) then bytesOf (fieldsFor board r) else replicate 16 0
 
--- The record that s starts with.
-unfoldable pub readOf : (board : ℕ) (s : List ℕ) → ReadAnswer
-readOf board s = if isValid board (fieldsOf s) then read.Good (recordIn (fieldsOf s)) else read.BadRecord
+-- A record stands at the front of s: 16 bytes, each field within its range.
+unfoldable pub isRecord : (board : ℕ) (s : List ℕ) → Bool
+isRecord board s = leb 16 (length s) && isValid board (fieldsOf s)
 
+-- The record that s starts with. Anything else is BadRecord.
+unfoldable pub readOf : (board : ℕ) (s : List ℕ) → ReadAnswer
+readOf board s = if isRecord board s then read.Good (recordIn (fieldsOf s)) else read.BadRecord
+
+-- A telling has no room for a record's fields.
 abbrev pub toldRead : ReadAnswer → Told
 toldRead (read.Good r) = done 0 0
 toldRead read.BadRecord = badRecord 0
+
+unfoldable pub readTold : (board : ℕ) (s : List ℕ) → Told
+readTold board s = if isRecord board s then done 0 0 else badRecord 0
 
 -- ---- Batch difference: theirs minus ours, modulo 65,536
 
@@ -118,3 +126,8 @@ classFor difference = if eqb difference 0 then Ours else if leb difference 32_76
 
 unfoldable pub classOf : (theirs ours : ℕ) → Class
 classOf theirs ours = classFor ((theirs + (65_536 - ours)) % 65_536)
+
+abbrev pub toldClass : Class → Told
+toldClass Ours = done 0 0
+toldClass Ahead = ahead 0
+toldClass Stale = stale 0

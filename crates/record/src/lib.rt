@@ -3,8 +3,10 @@ pub mod frame;
 mod number;
 
 ghost use mathlib.Core.Path.{_≡_};
-ghost use lib.ListN.{drop};
-ghost use Rattle.record.specs.Record.{fieldsOf, bytesOf, isValid, fieldsFor, recordIn, toldWrite, writeTold, writtenBytes, readOf, classOf};
+ghost use Prim.Native.Nat.{_+_, _≤_};
+ghost use lib.Dec.{leb};
+ghost use lib.ListN.{length, drop};
+ghost use Rattle.record.specs.Record.{fieldsOf, bytesOf, isValid, fieldsFor, recordIn, toldWrite, writeTold, writtenBytes, toldRead, readTold, readOf, toldClass, classOf};
 
 /// What a board sends: a particle, or the close of a batch with the count and the total of its particles.
 pub enum Record {
@@ -82,10 +84,14 @@ pub fn write(item: Record) -> Written
     }
 }
 
-/// The record whose bytes stand at `at`. A byte past the end counts as 0.
+/// The record whose 16 bytes stand at `at`. Fewer from there on are no record.
 pub fn read(s: &[u8], at: usize) -> ReadAnswer
-    ensures { λ r. ⌜ r ≡ readOf 0 (drop at (now (s .entry))) ⌝ }
+    ensures found { λ r. ⌜ r ≡ readOf 0 (drop at (now (s .entry))) ⌝ }
+    ensures answer { λ r. ⌜ toldRead r ≡ readTold 0 (drop at (now (s .entry))) ⌝ }
 {
+    if !holds(s, at) {
+        return ReadAnswer::BadRecord;
+    }
     let fields = fields_at(s, at);
     if !is_valid(fields) {
         return ReadAnswer::BadRecord;
@@ -96,7 +102,7 @@ pub fn read(s: &[u8], at: usize) -> ReadAnswer
 
 /// Theirs minus ours, modulo 65,536: 0 is ours, up to 32,767 is ahead, and the rest stale.
 pub fn class_of(theirs: u16, ours: u16) -> Class
-    ensures { λ r. ⌜ r ≡ classOf theirs ours ⌝ }
+    ensures { λ r. ⌜ toldClass r ≡ toldClass (classOf theirs ours) ⌝ }
 {
     let difference = std::num::wrapping_sub_u16(theirs, ours);
     if difference == 0 {
@@ -191,7 +197,18 @@ fn record_in(f: Fields) -> Record
     }
 }
 
+// Whether as many bytes as a record has stand from `at` on.
+fn holds(s: &[u8], at: usize) -> bool
+    ensures { λ r. ⌜ r ≡ leb 16 (length (drop at (now (s .entry)))) ⌝ }
+{
+    if s.len() < at {
+        return false;
+    }
+    frame::SIZE <= s.len() - at
+}
+
 fn fields_at(s: &[u8], at: usize) -> Fields
+    requires { ⌜ at + 16 ≤ length (now s) ⌝ }
     ensures { λ r. ⌜ r ≡ fieldsOf (drop at (now (s .entry))) ⌝ }
 {
     Fields {

@@ -1,24 +1,19 @@
 //! Numbers as bytes, the lowest first, and as 16 bits of two's complement.
 ghost use mathlib.Core.Path.{_≡_};
-ghost use Prim.Native.Nat.{_/_, _%_, _<_};
-ghost use lib.ListN.{getD, drop};
+ghost use Prim.Native.Nat.{_+_, _/_, _%_, _<_};
+ghost use lib.ListN.{length, getD, drop};
 ghost use Rattle.record.specs.Record.{bits, signed, word16, word32};
 
-// Byte k from `at` on. One past the end counts as 0.
+// Byte k from `at` on.
 pub(crate) fn byte(s: &[u8], at: usize, k: usize) -> u8
+    requires { ⌜ at + k < length (now s) ⌝ }
     ensures { λ r. ⌜ r ≡ getD (drop at (now (s .entry))) k 0 ⌝ }
 {
-    if s.len() <= at {
-        return 0;
-    }
-    if k < s.len() - at {
-        return s[at + k];
-    }
-    0
+    s[at + k]
 }
 
 pub(crate) fn word(s: &[u8], at: usize, k: usize) -> u16
-    requires { ⌜ k < 16 ⌝ }
+    requires { ⌜ at + k + 1 < length (now s) ⌝ }
     ensures { λ r. ⌜ r ≡ word16 (drop at (now (s .entry))) k ⌝ }
 {
     let low = byte(s, at, k);
@@ -27,7 +22,7 @@ pub(crate) fn word(s: &[u8], at: usize, k: usize) -> u16
 }
 
 pub(crate) fn long(s: &[u8], at: usize, k: usize) -> u32
-    requires { ⌜ k < 14 ⌝ }
+    requires { ⌜ at + k + 3 < length (now s) ⌝ }
     ensures { λ r. ⌜ r ≡ word32 (drop at (now (s .entry))) k ⌝ }
 {
     let low = word(s, at, k);

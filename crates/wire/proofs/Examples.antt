@@ -12,7 +12,7 @@ use Rattle.cobs.specs.Code.{encode, encodeIn}
 use Rattle.blocks.specs.Blocks.{copied}
 use Rattle.dec.specs.Stream as stream
 use Rattle.dec.specs.Stream.{bad, byteOutcome, byteDest, further, pieceOutcome, pieceDest, pushOutcome, pushDest}
-use Rattle.record.specs.Record.{fieldsOf, bytesOf, fieldsFor, recordIn, isValid, writeTold, writtenBytes, readOf, classOf}
+use Rattle.record.specs.Record.{fieldsOf, bytesOf, fieldsFor, recordIn, isValid, writeTold, writtenBytes, isRecord, readOf, classOf}
 use Rattle.record.specs.Frame.{isBadLength}
 use Rattle.batch.specs.State.{opened, limit, isBad, standTold, standsTold}
 use Rattle.batch.specs.Verdict.{onParticle, onClose, onRead, verdict, after, stored}
@@ -117,5 +117,5 @@ stays-open = demand3 (delivery lost) (met lost framing-lost) .answers
 
 -- the same, computed through the definitions alone
 pub computed : run (delivery came) .said ≡ seen stillOpen 250 1 ∷ seen (missing 1) 250 1 ∷ seen (missing 1) 250 1 ∷ seen complete 1250 2 ∷ []
-unfolding two came cutting delivery again.drive again.run again.runIn received encode encodeIn message sumBelow countBelow bad byteOutcome byteDest further stream.joined pieceOutcome pieceDest pushOutcome pushDest opened limit isBad standTold standsTold markedBelow marked bitAt withBit setMark isBadLength fieldsOf bytesOf fieldsFor recordIn isValid writeTold writtenBytes readOf classOf onParticle onClose onRead verdict after stored takeAll outcome acceptTold acceptNext acceptTable copied
+unfolding two came cutting delivery again.drive again.run again.runIn received encode encodeIn message sumBelow countBelow bad byteOutcome byteDest further stream.joined pieceOutcome pieceDest pushOutcome pushDest opened limit isBad standTold standsTold markedBelow marked bitAt withBit setMark isBadLength fieldsOf bytesOf fieldsFor recordIn isValid writeTold writtenBytes isRecord readOf classOf onParticle onClose onRead verdict after stored takeAll outcome acceptTold acceptNext acceptTable copied
 computed = refl

@@ -1,7 +1,7 @@
 -- The sender and the wire of demand 3, from the definitions that users call: what `write_frame` writes for each frame of a
 -- batch; and that loss, repeat and reorder only choose among the frames that were sent. Assumes nothing.
 use mathlib.Core.Path.{_≡_, refl}
-use mathlib.Core.List.{List, [], _∷_}
+use mathlib.Core.List.{List, [], _∷_, _++_}
 use Prim.Native.Nat.{ℕ, zero, suc, _+_, _*_, _/_, _≤_, _<_}
 use native.Mathlib.Omega.{arith}
 use lib.ListN.{length, getD}
@@ -13,6 +13,7 @@ use Rattle.record.specs.Record.{writtenBytes}
 use Rattle.record.specs.Frame as writer
 use Rattle.record.specs.Frame.{recordsTold, messageTold, frameTold, frameDest}
 use Rattle.record.proofs.Framing.{writes-fits}
+use Rattle.record.proofs.Round.{read-is}
 use Rattle.wire.specs.Loop.{framed}
 use Rattle.wire.specs.Batch.{Batch, count, particleAt, InRange, Item, recordOf, message, AllOf, Frame, Frames}
 use Rattle.wire.proofs.Arrived.{reads, record-long}
@@ -25,7 +26,8 @@ module _ (b : Batch) (numbered : b .number < 65536) (few : count b ≤ 4096) (ra
   unfolding recordsTold message
   all-good [] h k = refl
   all-good (item ∷ f) h k =
-      rw (reads b numbered few ranges item (h .0) (message b f), drop-at (writtenBytes 0 (recordOf b item)) (message b f) 16 (record-long b numbered few ranges item (h .0)))
+      let bytes : List ℕ = writtenBytes 0 (recordOf b item) in
+      rw (read-is (bytes ++ message b f) (recordOf b item) (reads b numbered few ranges item (h .0) (message b f)), drop-at bytes (message b f) 16 (record-long b numbered few ranges item (h .0)))
       (all-good f (h .1) (suc k))
 
   message-good : (f : List Item) → Frame b f → messageTold 16 240 (message b f) ≡ done 0 0
