@@ -16,22 +16,22 @@ use Rattle.wire.specs.Receive.{End, accepting}
 use Rattle.wire.specs.Call.{toldReceived, start, calls, leaves}
 use Rattle.wire.specs.declared.Wire.{Wire}
 use Rattle.wire.specs.declared.Receipt.{Receipt}
-use Rattle.numbers.specs.Numbers.{numbersOf, wireIn, names, readOf, writtenTo}
+use Rattle.numbers.specs.Numbers.{numbersOf, wireIn, names, readOf, writtenTo, readBack}
 use Rattle.numbers.specs.declared.Found.{Found}
-use Rattle.numbers.proofs.Naming.{read-named-is, read-wire-is, other-unnamed}
-use Rattle.capi.specs.Stream.{openTold, openState, call, wireOf, receiveTold, receiveConsumed, receiveState, receiveBuffer, receiveTable, stateTold, stateTotal}
+use Rattle.numbers.proofs.Naming.{read-named-is, read-wire-is, other-read}
+use Rattle.capi.specs.Stream.{openTold, openState, openFound, call, wireOf, receiveTold, receiveConsumed, receiveState, receiveFound, receiveBuffer, receiveTable, stateTold, stateTotal}
 
 -- ---- open
 
 module _ (ns : List ℕ) (batch n : ℕ) where
-  pub open-refused : length ns ≢ 74 → (tell 6 0 0 ≡ openTold ns) × ((ns ≡ openState ns batch n) × (names ns ≡ eqb (length ns) 74))
-  unfolding openTold openState writtenTo
-  open-refused h = (rw (ne-eqb (length ns) 74 h) refl, (rw (ne-eqb (length ns) 74 h) refl, other-unnamed ns h))
+  pub open-refused : length ns ≢ 74 → (tell 6 0 0 ≡ openTold ns) × ((ns ≡ openState ns batch n) × (readOf ns ≡ openFound ns batch n))
+  unfolding openTold openState openFound writtenTo
+  open-refused h = (rw (ne-eqb (length ns) 74 h) refl, (rw (ne-eqb (length ns) 74 h) refl, other-read ns (start batch n) h))
 
-  pub open-done : length ns ≡ 74 → (w : Wire) → w ≡ start batch n → (left : List ℕ) → left ≡ writtenTo ns w → names left ≡ eqb (length ns) 74
-      → (tell 0 0 0 ≡ openTold ns) × ((left ≡ openState ns batch n) × (names left ≡ eqb (length ns) 74))
-  unfolding openTold openState
-  open-done h w e left k named = (rw (eq-eqb (length ns) 74 h) refl, (k ∙ ap (writtenTo ns) e, named))
+  pub open-done : length ns ≡ 74 → (w : Wire) → w ≡ start batch n → (left : List ℕ) → left ≡ writtenTo ns w → readOf left ≡ readBack ns w
+      → (tell 0 0 0 ≡ openTold ns) × ((left ≡ openState ns batch n) × (readOf left ≡ openFound ns batch n))
+  unfolding openTold openState openFound
+  open-done h w e left k named = (rw (eq-eqb (length ns) 74 h) refl, (k ∙ ap (writtenTo ns) e, named ∙ ap (readBack ns) e))
 
 -- ---- the states that the numbers name
 
@@ -47,12 +47,12 @@ module _ (ns : List ℕ) (f : Found) (found : f ≡ readOf ns) where
   module _ (buffer table piece : List ℕ) where
     pub receive-none : f .named ≡ false
         → (tell 6 0 0 ≡ receiveTold ns buffer table piece) × ((0 ≡ receiveConsumed ns buffer table piece) × ((ns ≡ receiveState ns buffer table piece)
-        × ((names ns ≡ names ns) × ((buffer ≡ receiveBuffer ns buffer table piece) × (table ≡ receiveTable ns buffer table piece)))))
-    unfolding receiveTold receiveConsumed receiveState receiveBuffer receiveTable
+        × ((readOf ns ≡ receiveFound ns buffer table piece) × ((buffer ≡ receiveBuffer ns buffer table piece) × (table ≡ receiveTable ns buffer table piece)))))
+    unfolding receiveTold receiveConsumed receiveState receiveFound receiveBuffer receiveTable readOf
     receive-none e = rw (named-is ∙ e) (refl, (refl, (refl, (refl, (refl, refl)))))
 
     module _ (named : f .named ≡ true) (r : Receipt) (b t : List ℕ) (left : leaves r b t ≡ received accepting (calls (f .wire) buffer table) piece)
-        (s : List ℕ) (kept : s ≡ writtenTo ns (r .next)) (still : names s ≡ eqb (length ns) 74) (told : Told) (answer : told ≡ toldReceived (r .answer)) where
+        (s : List ℕ) (kept : s ≡ writtenTo ns (r .next)) (still : readOf s ≡ readBack ns (r .next)) (told : Told) (answer : told ≡ toldReceived (r .answer)) where
       whole : leaves r b t ≡ call ns buffer table piece
       whole = left ∙ ap (λ (w : Wire). received accepting (calls w buffer table) piece) (wire-named named)
 
@@ -62,8 +62,8 @@ module _ (ns : List ℕ) (f : Found) (found : f ≡ readOf ns) where
 
       pub receive-some :
           (told ≡ receiveTold ns buffer table piece) × ((r .consumed ≡ receiveConsumed ns buffer table piece) × ((s ≡ receiveState ns buffer table piece)
-          × ((names s ≡ names ns) × ((b ≡ receiveBuffer ns buffer table piece) × (t ≡ receiveTable ns buffer table piece)))))
-      unfolding receiveTold receiveConsumed receiveState receiveBuffer receiveTable writtenTo
+          × ((readOf s ≡ receiveFound ns buffer table piece) × ((b ≡ receiveBuffer ns buffer table piece) × (t ≡ receiveTable ns buffer table piece)))))
+      unfolding receiveTold receiveConsumed receiveState receiveFound receiveBuffer receiveTable writtenTo readBack
       receive-some =
           rw (named-is ∙ named) (
             answer ∙ ap (λ (x : Received (Side End)). x .answer) whole,
@@ -72,7 +72,9 @@ module _ (ns : List ℕ) (f : Found) (found : f ≡ readOf ns) where
               (
                 kept ∙ rw (long ns (named-is ∙ named)) (ap (λ (x : Received (Side End)). numbersOf (wireOf (x .side))) whole),
                 (
-                  still ∙ long ns (named-is ∙ named),
+                  still
+                      ∙ rw (long ns (named-is ∙ named))
+                      (ap (λ (x : Received (Side End)). record { named = true; wire = wireOf (x .side) }) whole),
                   (ap (λ (x : Received (Side End)). x .side .buffer) whole, ap (λ (x : Received (Side End)). x .side .state .table) whole),
                 ),
               ),

@@ -1,5 +1,6 @@
 -- The workstation's calls over the C convention: `receive` and `stands` on the states that numbers name. Numbers that name none
 -- are BadState, and then nothing changes. Assumes nothing.
+use mathlib.Core.Bool.{true}
 use mathlib.Core.List.{List}
 use Prim.Native.Nat.{ℕ}
 use lib.Dec.{eqb}
@@ -12,7 +13,8 @@ use Rattle.wire.specs.Loop.{Side, received}
 use Rattle.wire.specs.Receive.{End, accepting}
 use Rattle.wire.specs.Call.{start, calls}
 use Rattle.wire.specs.declared.Wire.{Wire}
-use Rattle.numbers.specs.Numbers.{numbersOf, wireIn, names, writtenTo}
+use Rattle.numbers.specs.Numbers.{numbersOf, wireIn, names, unnamed, writtenTo, readBack}
+use Rattle.numbers.specs.declared.Found.{Found}
 
 -- ---- open
 
@@ -23,6 +25,10 @@ openTold ns = if eqb (length ns) 74 then done 0 0 else badState
 -- The numbers of a receiving side opened on a batch, with a table of n bytes.
 unfoldable pub openState : (ns : List ℕ) (batch n : ℕ) → List ℕ
 openState ns batch n = writtenTo ns (start batch n)
+
+-- What they name.
+unfoldable pub openFound : (ns : List ℕ) (batch n : ℕ) → Found
+openFound ns batch n = readBack ns (start batch n)
 
 -- ---- receive
 
@@ -41,6 +47,10 @@ receiveConsumed ns buffer table piece = if names ns then call ns buffer table pi
 
 unfoldable pub receiveState : (ns buffer table piece : List ℕ) → List ℕ
 receiveState ns buffer table piece = if names ns then numbersOf (wireOf (call ns buffer table piece .side)) else ns
+
+-- What the numbers name afterwards: the states that the call left. Numbers that named none still name none.
+unfoldable pub receiveFound : (ns buffer table piece : List ℕ) → Found
+receiveFound ns buffer table piece = if names ns then record { named = true; wire = wireOf (call ns buffer table piece .side) } else unnamed
 
 unfoldable pub receiveBuffer : (ns buffer table piece : List ℕ) → List ℕ
 receiveBuffer ns buffer table piece = if names ns then call ns buffer table piece .side .buffer else buffer

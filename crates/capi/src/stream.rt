@@ -5,12 +5,11 @@ use crate::told::received;
 use crate::told::standing;
 use wire::Wire;
 ghost use mathlib.Core.Path.{_≡_};
-ghost use lib.Dec.{eqb};
 ghost use lib.ListN.{length};
 ghost use Rattle.cobs.specs.Answers.{tell};
 ghost use Rattle.record.specs.Frame.{frameTold, frameDest};
-ghost use Rattle.numbers.specs.Numbers.{names};
-ghost use Rattle.capi.specs.Stream.{openTold, openState, receiveTold, receiveConsumed, receiveState, receiveBuffer, receiveTable, stateTold, stateTotal};
+ghost use Rattle.numbers.specs.Numbers.{readOf};
+ghost use Rattle.capi.specs.Stream.{openTold, openState, openFound, receiveTold, receiveConsumed, receiveState, receiveFound, receiveBuffer, receiveTable, stateTold, stateTotal};
 
 /// The encoding of a message of 1 to 15 records, and one zero.
 #[no_mangle]
@@ -34,12 +33,12 @@ pub extern "C" fn laksovuth_state_length() -> usize
     numbers::COUNT
 }
 
-/// Opens a batch on a table. The numbers then name its states.
+/// Opens a batch on a table. The numbers then name a fresh decoder and a receiver opened on it.
 #[no_mangle]
 pub extern "C" fn laksovuth_open(state: &mut [u64], batch: u16, table: &[u8]) -> u8
     ensures answer { λ r. ⌜ tell r 0 0 ≡ openTold (now (state .entry)) ⌝ }
     ensures memory { λ _. ⌜ now (state .exit) ≡ openState (now (state .entry)) batch (length (now (table .entry))) ⌝ }
-    ensures named { λ _. ⌜ names (now (state .exit)) ≡ eqb (length (now (state .entry))) 74 ⌝ }
+    ensures named { λ _. ⌜ readOf (now (state .exit)) ≡ openFound (now (state .entry)) batch (length (now (table .entry))) ⌝ }
 {
     if state.len() != numbers::COUNT {
         return 6;
@@ -48,7 +47,8 @@ pub extern "C" fn laksovuth_open(state: &mut [u64], batch: u16, table: &[u8]) ->
     0
 }
 
-/// Takes a piece up to the end of its first frame. Numbers that name states go on to name states.
+/// Takes a piece up to the end of its first frame. Afterwards the numbers name the states that the call left, so the next call
+/// goes on from there.
 #[no_mangle]
 pub extern "C" fn laksovuth_receive(
     state: &mut [u64],
@@ -62,7 +62,7 @@ pub extern "C" fn laksovuth_receive(
     ensures answer { λ r. ⌜ tell r (now (value .exit)) (now (at .exit)) ≡ receiveTold (now (state .entry)) (now (buffer .entry)) (now (table .entry)) (now (piece .entry)) ⌝ }
     ensures taken { λ _. ⌜ now (consumed .exit) ≡ receiveConsumed (now (state .entry)) (now (buffer .entry)) (now (table .entry)) (now (piece .entry)) ⌝ }
     ensures state { λ _. ⌜ now (state .exit) ≡ receiveState (now (state .entry)) (now (buffer .entry)) (now (table .entry)) (now (piece .entry)) ⌝ }
-    ensures named { λ _. ⌜ names (now (state .exit)) ≡ names (now (state .entry)) ⌝ }
+    ensures named { λ _. ⌜ readOf (now (state .exit)) ≡ receiveFound (now (state .entry)) (now (buffer .entry)) (now (table .entry)) (now (piece .entry)) ⌝ }
     ensures decoded { λ _. ⌜ now (buffer .exit) ≡ receiveBuffer (now (state .entry)) (now (buffer .entry)) (now (table .entry)) (now (piece .entry)) ⌝ }
     ensures stored { λ _. ⌜ now (table .exit) ≡ receiveTable (now (state .entry)) (now (buffer .entry)) (now (table .entry)) (now (piece .entry)) ⌝ }
 {

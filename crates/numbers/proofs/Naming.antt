@@ -16,7 +16,7 @@ use Rattle.dec.specs.declared.state.DecoderState.the-variants.{Idle, Grab, Grab
 use Rattle.batch.specs.declared.Close.{Close}
 use Rattle.batch.specs.declared.Close.the-variants.{Not, Taken}
 use Rattle.wire.specs.declared.Wire.{Wire}
-use Rattle.numbers.specs.Numbers.{bit, stateNumbers, closeNumbers, headOf, numbersOf, stateIn, closeIn, wireIn, same, names, unnamed, readOf, writtenTo}
+use Rattle.numbers.specs.Numbers.{bit, stateNumbers, closeNumbers, headOf, numbersOf, stateIn, closeIn, wireIn, same, names, unnamed, readOf, writtenTo, readBack}
 use Rattle.numbers.specs.Helpers.{Fits}
 use Rattle.numbers.proofs.Same.{same-equal, same-itself}
 
@@ -157,14 +157,18 @@ own-named w f words =
     let long : length (headOf w ++ w .receiver .marks) ≡ 74 = length-append (headOf w) (w .receiver .marks) ∙ omega (arith, head-long w, words) in
     rw (eq-eqb (length (headOf w ++ w .receiver .marks)) 74 long, take-at (headOf w) (w .receiver .marks) 10 (head-long w), own-back w f) (same-itself (headOf w))
 
--- what `write` leaves names its states, in a list of that many
-pub written-named : (ns : List ℕ) (w : Wire) → Fits w → length (w .receiver .marks) ≡ 64 → length ns ≡ 74 → names (writtenTo ns w) ≡ eqb (length ns) 74
-unfolding writtenTo
-written-named ns w f words long = rw (eq-eqb (length ns) 74 long) (own-named w f words)
+-- what `write` leaves is read back as the states, from a list of that many
+pub own-read : (w : Wire) → Fits w → length (w .receiver .marks) ≡ 64 → readOf (numbersOf w) ≡ record { named = true; wire = w }
+unfolding readOf
+own-read w f words = rw (own-named w f words, own-back w f)
 
-pub other-unnamed : (ns : List ℕ) → length ns ≢ 74 → names ns ≡ eqb (length ns) 74
-unfolding names
-other-unnamed ns h = rw (ne-eqb (length ns) 74 h)
+pub written-read : (ns : List ℕ) (w : Wire) → Fits w → length (w .receiver .marks) ≡ 64 → length ns ≡ 74 → readOf (writtenTo ns w) ≡ readBack ns w
+unfolding writtenTo readBack
+written-read ns w f words long = rw (eq-eqb (length ns) 74 long) (own-read w f words)
+
+pub other-read : (ns : List ℕ) (w : Wire) → length ns ≢ 74 → readOf ns ≡ readBack ns w
+unfolding readOf names readBack
+other-read ns w h = rw (ne-eqb (length ns) 74 h)
 
 -- a field of the head, by the numbers of its part
 pub fits-by : (w : Wire) (kind left taken count total : ℕ) → kind ∷ left ∷ [] ≡ stateNumbers (w .decoder .state) → left < 256

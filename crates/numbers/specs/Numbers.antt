@@ -78,3 +78,7 @@ readOf ns = if names ns then record { named = true; wire = wireIn ns } else unna
 -- The states' numbers, in a list of as many; a list of another length stays.
 unfoldable pub writtenTo : List ℕ → Wire → List ℕ
 writtenTo ns w = if eqb (length ns) 74 then numbersOf w else ns
+
+-- What is read back from it: the very states, where the list has as many numbers as they.
+unfoldable pub readBack : (ns : List ℕ) → Wire → Found
+readBack ns w = if eqb (length ns) 74 then record { named = true; wire = w } else unnamed

@@ -7,10 +7,9 @@ use fields::wire_in;
 use wire::Wire;
 ghost use mathlib.Core.Path.{_≡_};
 ghost use Prim.Native.Nat.{_+_, _≤_};
-ghost use lib.Dec.{eqb};
 ghost use lib.ListN.{length, drop, take};
 ghost use lib.Seq.{paste};
-ghost use Rattle.numbers.specs.Numbers.{same, names, unnamed, readOf, writtenTo};
+ghost use Rattle.numbers.specs.Numbers.{same, unnamed, readOf, writtenTo, readBack};
 
 /// How many numbers there are: ten, and the words of the marks.
 pub const COUNT: usize = 74;
@@ -72,10 +71,11 @@ pub fn read(numbers: &[u64]) -> Found
     none()
 }
 
-/// Writes the states' numbers, which then name them, to a list of that many; a list of another length stays as it is.
+/// Writes the states' numbers to a list of that many, from which `read` gives those states back; a list of another length stays
+/// as it is.
 pub fn write(wire: Wire, numbers: &mut [u64])
     ensures memory { λ _. ⌜ now (numbers .exit) ≡ writtenTo (now (numbers .entry)) wire ⌝ }
-    ensures named { λ _. ⌜ names (now (numbers .exit)) ≡ eqb (length (now (numbers .entry))) 74 ⌝ }
+    ensures named { λ _. ⌜ readOf (now (numbers .exit)) ≡ readBack (now (numbers .entry)) wire ⌝ }
 {
     if numbers.len() != COUNT {
         return;

@@ -3,15 +3,15 @@ use mathlib.Core.Path.{sym, ap, _∙_}
 use native.Mathlib.Omega.{arith}
 use lib.ListN.{length}
 use borrow.Author.Needs.{needs}
-use Rattle.numbers.specs.Numbers.{names}
-use Rattle.numbers.proofs.Naming.{write-long, write-both, written-named, other-unnamed}
+use Rattle.numbers.specs.Numbers.{readOf}
+use Rattle.numbers.proofs.Naming.{write-long, write-both, written-read, other-read}
 use Rattle.numbers.proofs.write.Statement.{statement}
 use Rattle.numbers.proofs.write.Tie as tie
 
 returns : tie.Need-returns
 returns c =
     let a = c .before .before .args in
-    (write-long (a .numbers .now) (a .wire) (λ e. omega arith), other-unnamed (a .numbers .now) (λ e. omega arith))
+    (write-long (a .numbers .now) (a .wire) (λ e. omega arith), other-read (a .numbers .now) (a .wire) (λ e. omega arith))
 
 head-of-requires : tie.Need-head-of-requires
 head-of-requires c κs = search needs
@@ -41,7 +41,7 @@ returns-2 c =
     let m = c .before .before .before .before .before .marks-of in
     let left =
     write-both (a .numbers .now) (a .wire) (omega arith) _ (h .ensures .0) _ (c .before .before .before .before .before .before .before .before .copy .ensures) _ _ (m .ensures) (omega arith) (c .before .before .copy2 .ensures) in
-    (left, ap names left ∙ written-named (a .numbers .now) (a .wire) (h .ensures .1) (ap length (sym (m .ensures)) ∙ omega arith) (omega arith))
+    (left, ap readOf left ∙ written-read (a .numbers .now) (a .wire) (h .ensures .1) (ap length (sym (m .ensures)) ∙ omega arith) (omega arith))
 
 pub write-spec : {M : Type 1} → statement M
 write-spec =
