@@ -13,13 +13,13 @@ use Rattle.batch.specs.State.{standsTold}
 use Rattle.wire.specs.Again.{Received}
 use Rattle.wire.specs.Loop.{Side, received}
 use Rattle.wire.specs.Receive.{End, accepting}
-use Rattle.wire.specs.Call.{toldReceived, start, calls, leaves}
+use Rattle.wire.specs.Call.{toldReceived, start, calls, wireOf, leaves}
 use Rattle.wire.specs.declared.Wire.{Wire}
 use Rattle.wire.specs.declared.Receipt.{Receipt}
 use Rattle.numbers.specs.Numbers.{numbersOf, wireIn, names, readOf, writtenTo, readBack}
 use Rattle.numbers.specs.declared.Found.{Found}
 use Rattle.numbers.proofs.Naming.{read-named-is, read-wire-is, other-read}
-use Rattle.capi.specs.Stream.{openTold, openState, openFound, call, wireOf, receiveTold, receiveConsumed, receiveState, receiveFound, receiveBuffer, receiveTable, stateTold, stateTotal}
+use Rattle.capi.specs.Stream.{openTold, openState, openFound, call, receiveTold, receiveConsumed, receiveState, receiveFound, receiveBuffer, receiveTable, stateTold, stateTotal}
 
 -- ---- open
 

@@ -11,7 +11,7 @@ use Rattle.batch.specs.State.{standsTold}
 use Rattle.wire.specs.Again.{Received}
 use Rattle.wire.specs.Loop.{Side, received}
 use Rattle.wire.specs.Receive.{End, accepting}
-use Rattle.wire.specs.Call.{start, calls}
+use Rattle.wire.specs.Call.{start, calls, wireOf}
 use Rattle.wire.specs.declared.Wire.{Wire}
 use Rattle.numbers.specs.Numbers.{numbersOf, wireIn, names, unnamed, writtenTo, readBack}
 use Rattle.numbers.specs.declared.Found.{Found}
@@ -35,9 +35,6 @@ openFound ns batch n = readBack ns (start batch n)
 -- The call on the states that the numbers name.
 abbrev pub call : (ns buffer table piece : List ℕ) → Received (Side End)
 call ns buffer table piece = received accepting (calls (wireIn ns) buffer table) piece
-
-abbrev pub wireOf : Side End → Wire
-wireOf s = record { decoder = s .decoder; receiver = s .state .receiver }
 
 unfoldable pub receiveTold : (ns buffer table piece : List ℕ) → Told
 receiveTold ns buffer table piece = if names ns then call ns buffer table piece .answer else badState

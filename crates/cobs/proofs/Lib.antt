@@ -7,6 +7,7 @@ pub mod Reading
 pub mod Bodies
 pub mod Lengths
 pub mod Over
+pub mod Wide
 pub mod Sentinel
 pub mod OneShot
 pub mod Known

@@ -50,6 +50,11 @@ abbrev pub NoZero : List ℕ → Type 0
 NoZero [] = Unit {0}
 NoZero (b ∷ s) = (0 < b) × NoZero s
 
+-- Each number is a byte.
+abbrev pub Bytes : List ℕ → Type 0
+Bytes [] = Unit {0}
+Bytes (b ∷ s) = (b < 256) × Bytes s
+
 -- ---- A body, read as groups
 
 -- The bytes before the first zero, or all of them.

@@ -14,4 +14,5 @@ pub mod Frames
 pub mod Sources
 pub mod Decoding
 pub mod Streamed
+pub mod Wide
 pub mod Unique

@@ -13,8 +13,10 @@ use borrow.Author.Tests.{le-leb, leb-true}
 use lib.Seq.{drop-cons}
 use lib.Signed.{mag}
 use Rattle.cobs.specs.Words.{if_then_else_}
+use Rattle.cobs.specs.Code.{Bytes}
 use Rattle.cobs.specs.Answers.{done, badRecord}
 use Rattle.cobs.proofs.Told.{unlike}
+use Rattle.cobs.proofs.Wide.{bytes-at}
 use Rattle.record.specs.Record.{bytes16, bytes32, bits, signed, fieldsOf, bytesOf, fieldsFor, recordIn, isValid, writeTold, writtenBytes, isRecord, readOf}
 use Rattle.record.specs.declared.Fields.{Fields}
 use Rattle.record.specs.declared.Record.{Record}
@@ -158,13 +160,10 @@ fields-record f h (valid.particle b k w) =
     (bits-signed (f .x) (h .x)) (bits-signed (f .y) (h .y)) (bits-signed (f .z) (h .z)) (sym k) (sym b))
 fields-record f h (valid.close b k n x y z) = simp k (alike f 0 0 0 2 0 (sym x) (sym y) (sym z) (sym k) (sym b))
 
--- Each byte is one.
-abbrev pub Bytes : List ℕ → Type 0
-Bytes s = (k : ℕ) → getD s k 0 < 256
-
 small-fields : (s : List ℕ) → Bytes s → Small (fieldsOf s)
 unfolding fieldsOf
-small-fields s h =
+small-fields s b =
+    let h = bytes-at s b in
     record {
       batch = omega (arith, h 0, h 1);
       index = omega (arith, h 2, h 3);
@@ -202,7 +201,8 @@ sixteen s h =
 
 bytes-fields : (s : List ℕ) → Bytes s → 16 ≤ length s → bytesOf (fieldsOf s) ≡ take 16 s
 unfolding bytesOf fieldsOf
-bytes-fields s h l =
+bytes-fields s b l =
+    let h = bytes-at s b in
     ap₂ (λ (a b : List ℕ). a ++ b) (two-bytes (getD s 0 0) (getD s 1 0) (h 0) (h 1))
     (ap₂ (λ (a b : List ℕ). a ++ b) (two-bytes (getD s 2 0) (getD s 3 0) (h 2) (h 3))
     (ap₂ (λ (a b : List ℕ). a ++ b) (two-bytes (getD s 4 0) (getD s 5 0) (h 4) (h 5))
@@ -235,3 +235,20 @@ read-weight s {b} {i} {x} {y} {z} {w} e = go (fieldsOf s) (valid-says (fieldsOf 
         let p = simp k at q in
         let never : _≡_ {A = ℕ} 0 1 = cc in
         absurd (omega arith)
+
+-- and the total of a close that is read fits 32 bits
+pub read-total : (s : List ℕ) {b n t : ℕ} → Bytes s → readOf 0 s ≡ Good (Close b n t) → t < 4294967296
+unfolding recordIn
+read-total s {b} {n} {t} h e =
+    let says = read-says s (Close b n t) e in
+    go (fieldsOf s) (small-fields s h) (valid-says (fieldsOf s) (says .valid)) (says .item)
+  where
+    go : (f : Fields) → Small f → Valid f → recordIn f ≡ Close b n t → t < 4294967296
+    go f w (valid.particle ok k light) q =
+        let p = simp k at q in
+        let never : _≡_ {A = ℕ} 0 1 = cc in
+        absurd (omega arith)
+    go f w (valid.close ok k n x0 y0 z0) q =
+        let p = simp k at q in
+        let same : f .weight ≡ t = cc in
+        omega (arith, w .weight)

@@ -38,6 +38,10 @@ abbrev pub calls : Wire → (buffer table : List ℕ) → Side End
 calls w buffer table =
     record { decoder = w .decoder; buffer = buffer; state = record { receiver = w .receiver; table = table } }
 
+-- The states of what is left.
+abbrev pub wireOf : Side End → Wire
+wireOf s = record { decoder = s .decoder; receiver = s .state .receiver }
+
 -- What it leaves and answers.
 abbrev pub leaves : Receipt → (buffer table : List ℕ) → again.Received (Side End)
 leaves r buffer table =
