@@ -12,7 +12,6 @@ use Rattle.wire.specs.Again.{Received}
 use Rattle.wire.specs.Loop.{Side, received}
 use Rattle.wire.specs.Receive.{End, accepting}
 use Rattle.wire.specs.Call.{start, calls, wireOf}
-use Rattle.wire.specs.declared.Wire.{Wire}
 use Rattle.numbers.specs.Numbers.{numbersOf, wireIn, names, unnamed, writtenTo, readBack}
 use Rattle.numbers.specs.declared.Found.{Found}
 

@@ -1,17 +1,13 @@
 -- Over bytes the decoder stays within its types: what is left of a group fits a byte, and what is written are bytes.
 -- Assumes nothing.
-use mathlib.Core.Path.{_≡_}
-use mathlib.Core.Bool.{Bool}
 use mathlib.Core.List.{List, [], _∷_}
 use Prim.Native.Nat.{ℕ, zero, suc, _<_}
 use native.Mathlib.Omega.{arith}
 use lib.Dec.{eqb, ltb}
-use lib.ListN.{length}
-use Rattle.cobs.specs.Words.{if_then_else_}
 use Rattle.cobs.specs.Code.{Bytes}
 use Rattle.cobs.proofs.Wide.{bytes-set}
 use Rattle.dec.specs.State.{opened, atZero, stepped}
-use Rattle.dec.specs.Stream.{Outcome, isMore, resultOutcome, byteOutcome, resultDest, byteDest, joined, pieceOutcome, pieceDest, pushOutcome, pushDest}
+use Rattle.dec.specs.Stream.{Outcome, isMore, resultOutcome, byteOutcome, resultDest, byteDest, pieceOutcome, pieceDest}
 use Rattle.dec.specs.declared.state.DecoderState.{DecoderState}
 use Rattle.dec.specs.declared.state.DecoderState.the-variants.{Idle, Grab, GrabChain}
 use Rattle.dec.specs.declared.state.DecodeResult.{DecodeResult}

@@ -1,11 +1,10 @@
 -- States that a list of numbers can hold, and that a call on bytes leads from such states to such. Assumes nothing.
-use mathlib.Core.Path.{_≡_, refl, sym, ap, _∙_}
+use mathlib.Core.Path.{_≡_, refl}
 use mathlib.Core.Bool.{Bool, true, false, _||_}
 use mathlib.Core.List.{List}
 use Prim.Native.Nat.{ℕ, _<_}
 use native.Mathlib.Omega.{arith}
 use lib.ListN.{length, getD, take}
-use Rattle.cobs.specs.Words.{if_then_else_}
 use Rattle.cobs.specs.Answers.{isDone}
 use Rattle.cobs.specs.Code.{Bytes}
 use Rattle.cobs.proofs.Wide.{bytes-take}
