@@ -33,12 +33,21 @@ pub enum StateFinished {
     BadState,
 }
 
-// The largest usize less 255: from here a group can still close.
-const PLACE_LIMIT: usize = 0xffff_ffff_ffff_ff00;
-
 impl EncoderState {
     /// The most bytes of one group.
     pub const RUN_LIMIT: u8 = 254;
+
+    // The same, to count bytes by.
+    pub(crate) const RUN: usize = EncoderState::RUN_LIMIT as usize;
+
+    // The code of a full group.
+    pub(crate) const FULL_CODE: u8 = EncoderState::RUN_LIMIT + 1;
+
+    // How many bytes of the output a full group takes, its code among them.
+    pub(crate) const FULL_LENGTH: usize = EncoderState::RUN + 1;
+
+    // The largest usize less a full group: from here a group can still close.
+    const PLACE_LIMIT: usize = 0xffff_ffff_ffff_ffff - EncoderState::FULL_LENGTH;
 
     /// Before the first byte.
     pub fn new() -> Self
@@ -84,10 +93,10 @@ fn is_bad(s: EncoderState) -> bool
     if EncoderState::RUN_LIMIT < s.code {
         return true;
     }
-    PLACE_LIMIT < s.place
+    EncoderState::PLACE_LIMIT < s.place
 }
 
-// One byte: a zero closes the group, the 254th nonzero byte closes it full, and any other is added.
+// One byte: a zero closes the group, the nonzero byte that reaches the run limit closes it full, and any other is added.
 fn stepped(s: EncoderState, byte: u8) -> StatePushed
     requires { ⌜ stateBad s ≡ false ⌝ }
     ensures { λ r. ⌜ r ≡ step s byte ⌝ }
@@ -107,11 +116,11 @@ fn stepped(s: EncoderState, byte: u8) -> StatePushed
         return StatePushed {
             result: PushResult::ModifyFromStartAndPushAndSkip {
                 place,
-                code: 255,
+                code: EncoderState::FULL_CODE,
                 byte,
             },
             next: EncoderState {
-                place: place + 255,
+                place: place + EncoderState::FULL_LENGTH,
                 code: 1,
             },
         };

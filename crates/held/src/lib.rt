@@ -1,5 +1,4 @@
 //! The streaming encoder that holds its output slice: thin over `enc::stream::Encoder`, which does the work by value.
-use enc::state::EncoderState;
 use enc::stream::Accepted;
 use enc::stream::Encoder;
 use enc::stream::Finished;
@@ -105,11 +104,7 @@ fn start_on(dest: &mut [u8]) -> Opening
 {
     let Started::Ready(encoder) = Encoder::start(dest) else {
         return Opening {
-            encoder: Encoder {
-                state: EncoderState::new(),
-                full: false,
-                count: 0,
-            },
+            encoder: Encoder::new(),
             answer: Opened::DestBufTooSmall,
         };
     };
