@@ -73,6 +73,15 @@ fresh = record { state = freshState; full = false; count = 0 }
 unfoldable pub started : (room : ℕ) → Started
 started room = if eqb room 0 then start.DestBufTooSmall else start.Ready fresh
 
+-- What `start` answers, told.
+abbrev pub toldStarted : Started → Told
+toldStarted (start.Ready e) = done 0 0
+toldStarted start.DestBufTooSmall = destBufTooSmall
+
+-- DestBufTooSmall on a buffer of length 0, else done.
+unfoldable pub startTold : (room : ℕ) → Told
+startTold room = if eqb room 0 then destBufTooSmall else done 0 0
+
 -- What `push` answers, told.
 abbrev pub told : Accepted → Told
 told accept.Accepted = done 0 0

@@ -1,7 +1,7 @@
 //! The encoder's state alone: what each byte asks of the output, for a caller who keeps the output.
 ghost use mathlib.Core.Path.{_≡_};
 ghost use mathlib.Core.Bool.{false};
-ghost use Rattle.enc.specs.State.{freshState, step, stateBad, statePush, stateFinalize};
+ghost use Rattle.enc.specs.State.{freshState, step, stateBad, statePush, toldAsked, statePushTold, stateFinalize, toldStateFinished, stateFinalizeTold};
 
 /// The output starts with one byte held open for a code. `place` is where the open group's code is to stand, `code` what
 /// it is if the group closes now.
@@ -58,7 +58,8 @@ impl EncoderState {
 
     /// One byte. A refused state comes back as it went in.
     pub fn push(self, byte: u8) -> StatePushed
-        ensures { λ r. ⌜ r ≡ statePush self byte ⌝ }
+        ensures state { λ r. ⌜ r ≡ statePush self byte ⌝ }
+        ensures answer { λ r. ⌜ toldAsked (r .result) ≡ statePushTold self byte ⌝ }
     {
         if is_bad(self) {
             return StatePushed {
@@ -71,7 +72,8 @@ impl EncoderState {
 
     /// The end of the message.
     pub fn finalize(self) -> StateFinished
-        ensures { λ r. ⌜ r ≡ stateFinalize self ⌝ }
+        ensures state { λ r. ⌜ r ≡ stateFinalize self ⌝ }
+        ensures answer { λ r. ⌜ toldStateFinished r ≡ stateFinalizeTold self ⌝ }
     {
         if is_bad(self) {
             return StateFinished::BadState;

@@ -8,7 +8,7 @@ ghost use Prim.Native.Nat.{_+_, _^_, _≤_, _<_};
 ghost use lib.ListN.{length, set};
 ghost use Rattle.cobs.specs.Answers.{longest};
 ghost use Rattle.enc.specs.State.{noCode, stateBad};
-ghost use Rattle.enc.specs.Stream.{fresh, closesFull, obeyed, moved, wrote, moveAll, writeAll, finishedLength, isBad, started, told, pushTold, pushNext, pushDest, toldFinished, finishTold, finishDest};
+ghost use Rattle.enc.specs.Stream.{fresh, closesFull, obeyed, moved, wrote, moveAll, writeAll, finishedLength, isBad, started, toldStarted, startTold, told, pushTold, pushNext, pushDest, toldFinished, finishTold, finishDest};
 
 /// `full`: a just-closed full group ends the input. `count`: the bytes accepted.
 pub struct Encoder {
@@ -57,7 +57,8 @@ impl Encoder {
 
     /// An encoder for this buffer, which it leaves as it is. The finished encoding of nothing needs one byte.
     pub fn start(dest: &[u8]) -> Started
-        ensures { λ r. ⌜ r ≡ started (length (now (dest .entry))) ⌝ }
+        ensures state { λ r. ⌜ r ≡ started (length (now (dest .entry))) ⌝ }
+        ensures answer { λ r. ⌜ toldStarted r ≡ startTold (length (now (dest .entry))) ⌝ }
     {
         if dest.len() == 0 {
             return Started::DestBufTooSmall;

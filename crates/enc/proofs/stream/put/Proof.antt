@@ -28,7 +28,7 @@ same-length c = search needs
 returns : tie.Need-returns
 returns c =
     let g = sound _ .holds (c .before .before .before .before .before .before .before .before .before .before .before .pre .0) in
-    let q = c .before .before .before .before .before .before .push .ensures in
+    let q = c .before .before .before .before .before .before .push .ensures .0 in
     let o = c .before .before .before .before .obey .ensures in
     (rw (o .0) (after-moved _ _ g _ q), o .1 ∙ obeyed-wrote _ _ g _ q _)
 

@@ -18,7 +18,7 @@ sound-here c = good-sound _ _ (good-here c) (omega arith)
 
 asked : (c : tie.After-known-told) → let s = c .before .before .before .before .before .before .before .before .args .self .state in
     (c .before .place .given .0 .0 ≡ s .place) × (c .before .place .given .0 .1 .0 ≡ s .code)
-asked c = finalize-asks _ (sound-here (c .before .before .before .before .before)) _ (c .before .before .before .finalize .ensures) _ _ (c .before .place .given .1)
+asked c = finalize-asks _ (sound-here (c .before .before .before .before .before)) _ (c .before .before .before .finalize .ensures .0) _ _ (c .before .place .given .1)
 
 is-bad-requires : tie.Need-is-bad-requires
 is-bad-requires c κs = search needs
@@ -36,7 +36,7 @@ enum-told : tie.Need-enum-told
 enum-told c = search needs
 
 returns-2 : tie.Need-returns-2
-returns-2 c = absurd (finalize-not-bad _ (sound-here (c .before .before .before .before)) _ (c .before .before .finalize .ensures) (c .enum-told .given .1))
+returns-2 c = absurd (finalize-not-bad _ (sound-here (c .before .before .before .before)) _ (c .before .before .finalize .ensures .0) (c .enum-told .given .1))
 
 returns-3 : tie.Need-returns-3
 returns-3 c = rw (asked (c .before) .0) (finish-full _ _ (good-here (c .before .before .before .before .before .before)) (c .if2 .taken))
