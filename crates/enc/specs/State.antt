@@ -34,9 +34,13 @@ step s byte =
 abbrev pub noCode : ℕ → Bool
 noCode code = eqb code 0 || (code exceeds 254)
 
+-- The largest usize less 255.
+abbrev pub lastPlace : ℕ
+lastPlace = 0xffff_ffff_ffff_ffff - 255
+
 -- BadState: code outside 1 to 254, or place over the largest usize less 255.
 unfoldable pub stateBad : EncoderState → Bool
-stateBad s = noCode (s .code) || (s .place exceeds 0xffff_ffff_ffff_ffff - 255)
+stateBad s = noCode (s .code) || (s .place exceeds lastPlace)
 
 -- A refused state comes back as it went in.
 unfoldable pub statePush : EncoderState → (byte : ℕ) → StatePushed

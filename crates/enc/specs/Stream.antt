@@ -42,12 +42,14 @@ moved e byte =
 unfoldable pub wrote : Encoder → (byte : ℕ) (d : List ℕ) → List ℕ
 wrote e byte d = obeyed (step (e .state) byte .result) (e .state .place + e .state .code) d
 
--- ---- A piece, byte by byte: the encoder, and the buffer, after it
+-- ---- A piece, byte by byte
 
+-- The encoder after it.
 unfoldable pub moveAll : Encoder → (piece : List ℕ) → Encoder
 moveAll e [] = e
 moveAll e (b ∷ piece) = moveAll (moved e b) piece
 
+-- The buffer after it.
 unfoldable pub writeAll : Encoder → (piece d : List ℕ) → List ℕ
 writeAll e [] d = d
 writeAll e (b ∷ piece) d = writeAll (moved e b) piece (wrote e b d)

@@ -27,17 +27,21 @@ pushed e piece = record {
   encoder = pushNext (e .encoder) piece (length (now (e .dest)));
 }
 
--- ---- Two pieces into the buffer d: the encoder and the buffer after the first, and after both
+-- ---- Two pieces into the buffer d
 
+-- The encoder after the first.
 abbrev pub next₁ : (d first : List ℕ) → Encoder
 next₁ d first = pushNext fresh first (length d)
 
+-- The buffer after the first.
 abbrev pub dest₁ : (d first : List ℕ) → List ℕ
 dest₁ d first = pushDest fresh first d
 
+-- The encoder after both.
 abbrev pub next₂ : (d first second : List ℕ) → Encoder
 next₂ d first second = pushNext (next₁ d first) second (length (dest₁ d first))
 
+-- The buffer after both.
 abbrev pub dest₂ : (d first second : List ℕ) → List ℕ
 dest₂ d first second = pushDest (next₁ d first) second (dest₁ d first)
 
@@ -45,6 +49,7 @@ dest₂ d first second = pushDest (next₁ d first) second (dest₁ d first)
 abbrev pub toldTwo : TwoPieces → List Told
 toldTwo r = toldOpened (r .opened) ∷ told (r .first) ∷ told (r .second) ∷ toldFinished (r .finished) ∷ []
 
+-- Each answer is that of the call, on what the call before left.
 unfoldable pub twoTold : (d first second : List ℕ) → List Told
 twoTold d first second =
     startTold (length d) ∷ pushTold fresh first (length d) ∷ pushTold (next₁ d first) second (length (dest₁ d first))

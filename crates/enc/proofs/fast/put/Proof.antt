@@ -1,6 +1,6 @@
 -- `enc::fast::put` meets its contract. Assumes nothing.
 use mathlib.Core.Logic.{⊎-elim}
-use Prim.Native.Nat.{_+_, _-_, _≤_, _<_}
+use Prim.Native.Nat.{_-_, _<_}
 use native.Mathlib.Omega.{arith}
 use lib.ListN.{length, length-set}
 use Rattle.enc.specs.Fast.{Short, Open, Kept}
