@@ -66,7 +66,7 @@ unreached = record { encoder = record { state = opened 0 254; full = false; coun
 
 pub unreached-stays : (c : Call) → isBad (called unreached c .encoder) 254 ≡ false
 unfolding isBad
-unreached-stays c = sentences .stays unreached c refl
+unreached-stays c = sentences .leaves unreached c .good refl
 
 -- ---- the state alone: the first place from which a zero or a full group leads to a BadState, and the last from which it does not
 

@@ -2,33 +2,26 @@
 use mathlib.Core.Path.{_≡_, refl, sym, ap, ap₂, _∙_}
 use mathlib.Core.Bool.{false, true≢false}
 use mathlib.Core.List.{List, [], _∷_, _++_}
-use Prim.Native.Nat.{ℕ, _+_, _≤_, _<_}
+use Prim.Native.Nat.{ℕ, _+_, _<_}
 use native.Mathlib.Nat.{le-refl}
 use native.Mathlib.Omega.{arith}
-use lib.ListN.{length, getD, drop, length-append}
+use lib.ListN.{length, length-append}
 use borrow.Author.Tests.{ne-eqb, le-ltb}
 use Rattle.cobs.specs.Words.{if_then_else_}
 use Rattle.cobs.specs.Code.{encode, encodeIn}
 use Rattle.cobs.specs.Answers.{done, isDone}
 use Rattle.enc.specs.State.{lastPlace, stateBad, statePush}
-use Rattle.enc.specs.Stream.{fresh, moved, moveAll, writeAll, finishedLength, isBad, closed, started, startTold, pushTold, pushNext, pushDest}
-use Rattle.enc.specs.Sentences.{Call, push, finalize, Work, answer, called, calls, begun, fitTold, Streaming, Alone, Sentences}
+use Rattle.enc.specs.Stream.{fresh, moved, moveAll, writeAll, finishedLength, closed, startTold, pushTold}
+use Rattle.enc.specs.Sentences.{Call, push, finalize, Work, answer, called, calls, begun, fitTold, Streaming, Leaves, Alone, Sentences}
 use Rattle.enc.specs.declared.state.EncoderState.{EncoderState}
 use Rattle.enc.specs.declared.stream.Encoder.{Encoder}
-use Rattle.enc.specs.declared.stream.Started.the-variants as start
 use Rattle.enc.proofs.Deciding.{by-eq, by-lt, refuted}
 use Rattle.enc.proofs.Steps.{InGroup, Sound, sound, sound-push, group-moved}
 use Rattle.enc.proofs.Pieces.{Good, good, move-joined, write-joined, count-all}
 use Rattle.enc.proofs.Calls.{ready-fresh, finish-good}
 use Rattle.enc.proofs.Meaning.{finished-encode, closed-encode}
 use Rattle.enc.proofs.Joined.{fresh-good, next-moved, good-next, finished-next, dest-wrote, length-dest, rest-pushed, length-finished, rest-finished, closed-twice, alike-all}
-use Rattle.enc.proofs.Unwritten.{open-kept}
-
--- ---- the start
-
-starts-fit : (room : ℕ) → startTold room ≡ fitTold [] room
-unfolding startTold fitTold encode encodeIn
-starts-fit room = by-eq room 0 (λ z. rw z refl) (λ nz. rw (ne-eqb room 0 nz, le-ltb room 1 (omega arith)))
+use Rattle.enc.proofs.Unwritten.{open-pushed}
 
 -- ---- calls one after another
 
@@ -99,33 +92,23 @@ begins : (d : List ℕ) → 0 < length d → Holds d (begun fresh d)
 unfolding moveAll writeAll
 begins d h = record { from-fresh = refl; fits = fresh-good (length d) h; long = refl; alike = refl }
 
-streaming : (d : List ℕ) (e : Encoder) → started (length d) ≡ start.Ready e → (cs : List Call) → Streaming d (calls (begun e d) cs)
-streaming d e q cs =
-    let r = ready-fresh (length d) e q in
-    rw (r .1) (streams d _ (calls-hold d (begun fresh d) cs (begins d (r .0))))
-
 -- ---- each call by itself, from any encoder
 
-unwritten : (e : Encoder) (piece d : List ℕ) → isBad e (length d) ≡ false
-    → getD (pushDest e piece d) (pushNext e piece (length d) .state .place) 0 ≡ getD d (pushNext e piece (length d) .state .place) 0
-unwritten e piece d q =
-    rw (next-moved e piece (length d), dest-wrote e piece d) (open-kept e _ d (good e (length d) .holds q .group))
-
-stays : (w : Work) (c : Call) → isBad (w .encoder) (length (w .buffer)) ≡ false → isBad (called w c .encoder) (length (w .buffer)) ≡ false
-stays w (push p) q = good _ _ .none (good-next (w .encoder) p (length (w .buffer)) (good _ _ .holds q))
-stays w finalize q = q
-
-long : (w : Work) (c : Call) → length (called w c .buffer) ≡ length (w .buffer)
-long w (push p) = length-dest (w .encoder) p (w .buffer)
-long w finalize = length-finished (w .encoder) (w .buffer)
-
-grows : (w : Work) (c : Call) → finishedLength (w .encoder) ≤ finishedLength (called w c .encoder)
-grows w (push p) = finished-next (w .encoder) p (length (w .buffer))
-grows w finalize = le-refl _
-
-behind : (w : Work) (c : Call) (n : ℕ) → finishedLength (called w c .encoder) ≤ n → drop n (called w c .buffer) ≡ drop n (w .buffer)
-behind w (push p) n = rest-pushed (w .encoder) p (w .buffer) n
-behind w finalize n = rest-finished (w .encoder) (w .buffer) n
+leaves : (w : Work) (c : Call) → Leaves w c
+leaves w (push p) =
+    record {
+      good = λ q. good _ _ .none (good-next (w .encoder) p (length (w .buffer)) (good _ _ .holds q));
+      long = length-dest (w .encoder) p (w .buffer);
+      grows = finished-next (w .encoder) p (length (w .buffer));
+      behind = rest-pushed (w .encoder) p (w .buffer);
+    }
+leaves w finalize =
+    record {
+      good = λ q. q;
+      long = length-finished (w .encoder) (w .buffer);
+      grows = le-refl _;
+      behind = rest-finished (w .encoder) (w .buffer);
+    }
 
 -- ---- the state alone
 
@@ -143,17 +126,16 @@ alone s byte q =
       all = λ l. sym (refuted (sound next) (λ g. omega (arith, g .low)));
     }
 
+-- ---- all of them
+
 pub sentences : Sentences
-unfolding startTold
+unfolding startTold fitTold encode encodeIn
 sentences =
     record {
-      streaming = streaming;
-      starts = starts-fit;
+      streaming = λ d e q cs. let r = ready-fresh (length d) e q in rw (r .1) (streams d _ (calls-hold d (begun fresh d) cs (begins d (r .0))));
+      starts = λ room. by-eq room 0 (λ z. rw z refl) (λ nz. rw (ne-eqb room 0 nz, le-ltb room 1 (omega arith)));
       refuses = refl;
-      unwritten = unwritten;
-      stays = stays;
-      long = long;
-      grows = grows;
-      behind = behind;
+      unwritten = open-pushed;
+      leaves = leaves;
       alone = alone;
     }

@@ -1,15 +1,18 @@
--- No byte that is pushed writes to the place of the code that is open after it. Assumes nothing.
+-- No piece writes to the place of the code that is open after it. Assumes nothing.
 use mathlib.Core.Path.{_≡_, refl, _∙_}
 use mathlib.Core.List.{List, [], _∷_}
 use Prim.Native.Nat.{ℕ, _+_, _≤_}
 use native.Mathlib.Omega.{arith}
-use lib.ListN.{set, getD}
+use lib.ListN.{length, set, getD}
 use lib.Seq.{getD-set-other}
-use Rattle.enc.specs.Stream.{obeyed, moved, wrote, moveAll, writeAll}
+use Rattle.cobs.specs.Words.{if_then_else_}
+use Rattle.cobs.specs.Answers.{isDone}
+use Rattle.enc.specs.Stream.{obeyed, moved, wrote, moveAll, writeAll, pushNext, pushDest}
 use Rattle.enc.specs.declared.state.EncoderState.{EncoderState}
 use Rattle.enc.specs.declared.stream.Encoder.{Encoder}
 use Rattle.enc.proofs.Deciding.{by-eq}
 use Rattle.enc.proofs.Steps.{InGroup, by-step, group-moved}
+use Rattle.enc.proofs.Calls.{by-push}
 
 -- Where the next byte goes.
 abbrev end : Encoder → ℕ
@@ -44,8 +47,16 @@ unfolding moveAll
 last-free e [] = λ n. absurd (n refl)
 last-free e (b ∷ p) = free-before _ e b (last-free (moved e b) p)
 
-pub open-kept : (e : Encoder) (p d : List ℕ) → InGroup (e .state .code)
+open-kept : (e : Encoder) (p d : List ℕ) → InGroup (e .state .code)
     → getD (writeAll e p d) (moveAll e p .state .place) 0 ≡ getD d (moveAll e p .state .place) 0
 unfolding moveAll writeAll
 open-kept e [] d g = refl
 open-kept e (b ∷ p) d g = open-kept (moved e b) p (wrote e b d) (group-moved e b g) ∙ free-kept _ e b g d (last-free (moved e b) p)
+
+pub open-pushed : (e : Encoder) (p d : List ℕ)
+    → getD (pushDest e p d) (pushNext e p (length d) .state .place) 0 ≡ getD d (pushNext e p (length d) .state .place) 0
+unfolding pushNext pushDest
+open-pushed e p d =
+    by-push
+    (λ t. let e′ = if isDone t then moveAll e p else e in getD (if isDone t then writeAll e p d else d) (e′ .state .place) 0 ≡ getD d (e′ .state .place) 0)
+    e p (length d) (λ h. refl) (λ g h. refl) (λ g h k. refl) (λ g h k. open-kept e p d (g .group))

@@ -65,6 +65,15 @@ pub record Streaming (untouched : List ℕ) (w : Work) : Type 0 where
   pub finished : finishTold (w .encoder) (length (w .buffer)) ≡ done (length (encode (w .accepted))) 0
   pub bytes : finishDest (w .encoder) (w .buffer) ≡ over (encode (w .accepted)) untouched
 
+-- What a call leaves of any encoder and any buffer.
+pub record Leaves (w : Work) (c : Call) : Type 0 where
+  -- no call leads from a good state to a BadState, on a buffer of the same length
+  pub good : isBad (w .encoder) (length (w .buffer)) ≡ false → isBad (called w c .encoder) (length (w .buffer)) ≡ false
+  pub long : length (called w c .buffer) ≡ length (w .buffer)
+  -- the finished length never falls, and no call writes behind it
+  pub grows : finishedLength (w .encoder) ≤ finishedLength (called w c .encoder)
+  pub behind : (n : ℕ) → finishedLength (called w c .encoder) ≤ n → drop n (called w c .buffer) ≡ drop n (w .buffer)
+
 -- A byte leads to a BadState exactly if the next place is over the largest usize less 255.
 pub record Alone (s : EncoderState) (byte : ℕ) : Type 0 where
   pub only : stateBad (statePush s byte .next) ≡ true → lastPlace < statePush s byte .next .place
@@ -78,13 +87,9 @@ pub record Sentences : Type 0 where
   pub starts : (room : ℕ) → startTold room ≡ fitTold [] room
   pub refuses : startTold 0 ≡ destBufTooSmall
   -- "An open code byte is not written until its group closes or finalize runs."
-  pub unwritten : (e : Encoder) (piece d : List ℕ) → isBad e (length d) ≡ false
+  pub unwritten : (e : Encoder) (piece d : List ℕ)
       → getD (pushDest e piece d) (pushNext e piece (length d) .state .place) 0 ≡ getD d (pushNext e piece (length d) .state .place) 0
-  -- no call on a buffer of the same length leads from a good state to a BadState, and the buffer stays as long as it is
-  pub stays : (w : Work) (c : Call) → isBad (w .encoder) (length (w .buffer)) ≡ false → isBad (called w c .encoder) (length (w .buffer)) ≡ false
-  pub long : (w : Work) (c : Call) → length (called w c .buffer) ≡ length (w .buffer)
-  -- the finished length never falls, and no call writes behind it
-  pub grows : (w : Work) (c : Call) → finishedLength (w .encoder) ≤ finishedLength (called w c .encoder)
-  pub behind : (w : Work) (c : Call) (n : ℕ) → finishedLength (called w c .encoder) ≤ n → drop n (called w c .buffer) ≡ drop n (w .buffer)
+  -- whoever wrote to the buffer before, and whether or not calls lead to this encoder
+  pub leaves : (w : Work) (c : Call) → Leaves w c
   -- "EncoderState alone: code outside 1 to 254, or place over the largest usize less 255": only the second comes of a push
   pub alone : (s : EncoderState) (byte : ℕ) → stateBad s ≡ false → Alone s byte
