@@ -132,11 +132,12 @@ module _ (e : Encoder) (d : List ℕ) where
   unfolding finishTold finishDest
   finish-good g = rw (good e (length d) .none g) (refl, refl)
 
-  pub finish-full : Good e (length d) → e .full ≡ true → (done (e .state .place) 0 ≡ finishTold e (length d)) × (d ≡ finishDest e d)
+  pub finish-full : Good e (length d) → e .full ≡ true → (place : ℕ) → place ≡ e .state .place
+      → (done place 0 ≡ finishTold e (length d)) × (d ≡ finishDest e d)
   unfolding finishTold finishDest
-  finish-full g f = rw (good e (length d) .none g, f) (refl, refl)
+  finish-full g f place p = rw (p, good e (length d) .none g, f) (refl, refl)
 
-  pub finish-open : Good e (length d) → e .full ≡ false
-      → (done (e .state .place + e .state .code) 0 ≡ finishTold e (length d)) × (set d (e .state .place) (e .state .code) ≡ finishDest e d)
+  pub finish-open : Good e (length d) → e .full ≡ false → (place code : ℕ) → place ≡ e .state .place → code ≡ e .state .code
+      → (done (place + code) 0 ≡ finishTold e (length d)) × (set d place code ≡ finishDest e d)
   unfolding finishTold finishDest
-  finish-open g f = rw (good e (length d) .none g, f) (refl, refl)
+  finish-open g f place code p q = rw (p, q, good e (length d) .none g, f) (refl, refl)
