@@ -7,15 +7,18 @@ use native.Mathlib.Omega.{arith}
 use types.Run.{OneOf, miss}
 use denote.Enum.Declared.{tagOf}
 use lib.ListN.{length, set}
-use borrow.Author.Tests.{lt-ltb, le-ltb}
+use lib.Dec.{eqb}
+use borrow.Author.Tests.{eqb-false, lt-ltb, le-ltb}
+use Rattle.cobs.specs.Words.{if_then_else_}
 use Rattle.cobs.specs.Answers.{Told, done, tooLong, destBufTooSmall, badState, longest, isDone}
 use Rattle.cobs.proofs.Told.{unlike}
 use Rattle.enc.specs.State.{stateFinalize}
-use Rattle.enc.specs.Stream.{moveAll, writeAll, finishedLength, isBad, closed, told, pushTold, pushNext, pushDest, finishTold, finishDest}
+use Rattle.enc.specs.Stream.{fresh, moveAll, writeAll, finishedLength, isBad, closed, started, told, pushTold, pushNext, pushDest, finishTold, finishDest}
 use Rattle.enc.specs.declared.state.EncoderState.{EncoderState}
 use Rattle.enc.specs.declared.state.StateFinished.{StateFinished}
 use Rattle.enc.specs.declared.state.StateFinished.the-variants.{Modify, BadState}
 use Rattle.enc.specs.declared.stream.Encoder.{Encoder}
+use Rattle.enc.specs.declared.stream.Started.the-variants as start
 use Rattle.enc.specs.declared.stream.Accepted.{Accepted}
 use Rattle.enc.specs.declared.stream.Accepted.the-variants as accept
 use Rattle.enc.proofs.stream.Accepted.{the-type}
@@ -26,6 +29,17 @@ use Rattle.enc.proofs.Pieces.{Good, good, place-finished}
 -- a state that goes with a buffer is sound alone
 pub good-sound : (e : Encoder) (room : ℕ) → Good e room → room < 2 ^ 63 → Sound (e .state)
 good-sound e room g h = record { group = g .group; low = omega (arith, g .fits, place-finished e) }
+
+-- ---- start
+
+-- an encoder that `start` gave is fresh, and its buffer is not empty
+pub ready-fresh : (room : ℕ) (e : Encoder) → started room ≡ start.Ready e → (0 < room) × (e ≡ fresh)
+unfolding started
+ready-fresh room e q = go (eqb room 0) refl q
+  where
+    go : (t : Bool) → eqb room 0 ≡ t → (if t then start.DestBufTooSmall else start.Ready fresh) ≡ start.Ready e → (0 < room) × (e ≡ fresh)
+    go true h k = let z : _≡_ {A = ℕ} 0 1 = cc in absurd (omega arith)
+    go false h k = let n = eqb-false room 0 h in (omega arith, cc)
 
 -- ---- push
 
@@ -118,11 +132,12 @@ module _ (e : Encoder) (d : List ℕ) where
   unfolding finishTold finishDest
   finish-good g = rw (good e (length d) .none g) (refl, refl)
 
-  pub finish-full : Good e (length d) → e .full ≡ true → (done (e .state .place) 0 ≡ finishTold e (length d)) × (d ≡ finishDest e d)
+  pub finish-full : Good e (length d) → e .full ≡ true → (place : ℕ) → place ≡ e .state .place
+      → (done place 0 ≡ finishTold e (length d)) × (d ≡ finishDest e d)
   unfolding finishTold finishDest
-  finish-full g f = rw (good e (length d) .none g, f) (refl, refl)
+  finish-full g f place p = rw (p, good e (length d) .none g, f) (refl, refl)
 
-  pub finish-open : Good e (length d) → e .full ≡ false
-      → (done (e .state .place + e .state .code) 0 ≡ finishTold e (length d)) × (set d (e .state .place) (e .state .code) ≡ finishDest e d)
+  pub finish-open : Good e (length d) → e .full ≡ false → (place code : ℕ) → place ≡ e .state .place → code ≡ e .state .code
+      → (done (place + code) 0 ≡ finishTold e (length d)) × (set d place code ≡ finishDest e d)
   unfolding finishTold finishDest
-  finish-open g f = rw (good e (length d) .none g, f) (refl, refl)
+  finish-open g f place code p q = rw (p, q, good e (length d) .none g, f) (refl, refl)

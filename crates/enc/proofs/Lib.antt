@@ -6,6 +6,9 @@ pub mod Loops
 pub mod Calls
 pub mod Meaning
 pub mod Joined
+pub mod Unwritten
+pub mod Sentences
+pub mod Examples
 pub mod Parts
 pub mod Tails
 pub mod Counted

@@ -8,7 +8,7 @@ use lib.ListN.{length, drop, set, length-set}
 use lib.Seq.{drop-set-lt}
 use borrow.Author.Tests.{eq-eqb, ne-eqb, eqb-false, ltb-false, le-ltb}
 use Rattle.cobs.specs.Words.{if_then_else_}
-use Rattle.enc.specs.State.{opened, asking, step, noCode, stateBad, statePush}
+use Rattle.enc.specs.State.{opened, asking, step, noCode, stateBad, statePush, toldAsked, statePushTold}
 use Rattle.enc.specs.Stream.{obeyed, closesFull, moved, wrote, finishedLength}
 use Rattle.enc.specs.declared.state.EncoderState.{EncoderState}
 use Rattle.enc.specs.declared.state.PushResult.the-variants.{AddSingle, ModifyFromStartAndSkip, ModifyFromStartAndPushAndSkip}
@@ -59,6 +59,14 @@ by-step P s b skip full add =
     (λ nz. by-eq (s .code) 254
     (λ f. rw (ne-eqb b 0 nz, eq-eqb (s .code) 254 f) (full nz f))
     (λ nf. rw (ne-eqb b 0 nz, ne-eqb (s .code) 254 nf) (add nz nf)))
+
+-- what each way asks, told
+pub step-told : (s : EncoderState) (b : ℕ) → stateBad s ≡ false → (r : StatePushed) → r ≡ step s b → toldAsked (r .result) ≡ statePushTold s b
+unfolding statePushTold
+step-told s b g r q =
+    rw q
+    (by-step (λ p. toldAsked (p .result) ≡ statePushTold s b) s b (λ z. rw (g, eq-eqb b 0 z))
+    (λ nz f. rw (g, ne-eqb b 0 nz, eq-eqb (s .code) 254 f)) (λ nz nf. rw (g, ne-eqb b 0 nz, ne-eqb (s .code) 254 nf)))
 
 module _ (e : Encoder) (b : ℕ) where
   abbrev after : EncoderState → Bool → Encoder

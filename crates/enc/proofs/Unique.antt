@@ -9,7 +9,7 @@ use Rattle.cobs.specs.Answers.{Told, isDone}
 use Rattle.cobs.specs.OneShot.{plain, zerosAround, chosen, encodeTold, encodeDest}
 use Rattle.cobs.proofs.Told.{one-result}
 use Rattle.enc.specs.State.{freshState, statePush, stateFinalize}
-use Rattle.enc.specs.Stream.{started, pushTold, pushNext, pushDest, finishTold, finishDest}
+use Rattle.enc.specs.Stream.{fresh, started, pushTold, pushNext, pushDest, finishTold, finishDest}
 use Rattle.enc.specs.Stream as stream
 use Rattle.enc.specs.OneShot.{told, toldWith}
 use Rattle.enc.specs.declared.state.EncoderState.{EncoderState}
@@ -39,6 +39,9 @@ pub unique-EncoderState-finalize : (e : EncoderState) (r s : StateFinished) → 
 unique-EncoderState-finalize e r s p q = p ∙ sym q
 
 -- ---- streaming
+
+pub unique-Encoder-new : (r s : Encoder) → r ≡ fresh → s ≡ fresh → r ≡ s
+unique-Encoder-new r s p q = p ∙ sym q
 
 pub unique-Encoder-start : (dest : List ℕ) (r s : Started) → r ≡ started (length dest) → s ≡ started (length dest) → r ≡ s
 unique-Encoder-start dest r s p q = p ∙ sym q

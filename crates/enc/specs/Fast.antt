@@ -17,6 +17,14 @@ encoding m = encode m
 abbrev pub roomFor : (src : List ℕ) (room : ℕ) → Room
 roomFor src room = if length (encode src) exceeds room then DestBufTooSmall else Fits
 
+-- A group whose code is at `place` can end before `at`: its code is 1 to 255.
+abbrev pub Closes : (place at : ℕ) → Type 0
+Closes place at = (place < at) × (at ≤ place + 255)
+
+-- Ended before `at` it would not be full.
+abbrev pub Short : (place at : ℕ) → Type 0
+Short place at = at ≤ place + 254
+
 -- The source s up to i is written to the buffer d, but for the code of the group that is open, at `place`.
 -- `out`: where the byte at i goes; `ahead`: so many bytes from i on are copied too. Past these the buffer may hold anything.
 pub record Open (s : List ℕ) (i place out ahead : ℕ) (d : List ℕ) : Type 0 where

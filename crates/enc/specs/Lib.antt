@@ -2,5 +2,6 @@
 pub mod State
 pub mod Stream
 pub mod OneShot
+pub mod Sentences
 -- for the private functions
 pub mod Fast

@@ -42,12 +42,14 @@ moved e byte =
 unfoldable pub wrote : Encoder → (byte : ℕ) (d : List ℕ) → List ℕ
 wrote e byte d = obeyed (step (e .state) byte .result) (e .state .place + e .state .code) d
 
--- ---- A piece, byte by byte: the encoder, and the buffer, after it
+-- ---- A piece, byte by byte
 
+-- The encoder after it.
 unfoldable pub moveAll : Encoder → (piece : List ℕ) → Encoder
 moveAll e [] = e
 moveAll e (b ∷ piece) = moveAll (moved e b) piece
 
+-- The buffer after it.
 unfoldable pub writeAll : Encoder → (piece d : List ℕ) → List ℕ
 writeAll e [] d = d
 writeAll e (b ∷ piece) d = writeAll (moved e b) piece (wrote e b d)
@@ -72,6 +74,15 @@ fresh = record { state = freshState; full = false; count = 0 }
 -- An encoder cannot start on a buffer of length 0.
 unfoldable pub started : (room : ℕ) → Started
 started room = if eqb room 0 then start.DestBufTooSmall else start.Ready fresh
+
+-- What `start` answers, told.
+abbrev pub toldStarted : Started → Told
+toldStarted (start.Ready e) = done 0 0
+toldStarted start.DestBufTooSmall = destBufTooSmall
+
+-- DestBufTooSmall on a buffer of length 0, else done.
+unfoldable pub startTold : (room : ℕ) → Told
+startTold room = if eqb room 0 then destBufTooSmall else done 0 0
 
 -- What `push` answers, told.
 abbrev pub told : Accepted → Told

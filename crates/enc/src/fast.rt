@@ -1,6 +1,7 @@
 //! One message into a buffer that has room for it, sixteen bytes at a time. A byte of the message stands in the output one
 //! place further on, and one more for each full group before it; where a zero would stand goes the next group's code. So
 //! sixteen bytes are copied as they are, and the codes of the groups that close among them are written after.
+use crate::state::EncoderState;
 use blocks::Taken;
 use blocks::fill16;
 use blocks::take16;
@@ -10,11 +11,14 @@ ghost use lib.Dec.{eqb};
 ghost use lib.ListN.{length, set};
 ghost use Rattle.cobs.specs.Words.{if_then_else_};
 ghost use Rattle.cobs.specs.Code.{encode, over};
-ghost use Rattle.enc.specs.Fast.{Open, Kept, Ends};
+ghost use Rattle.enc.specs.Fast.{Closes, Short, Open, Kept, Ends};
+
+// How far the next byte may stand from the open group's code for sixteen more to leave the group short of full.
+const BLOCK_ROOM: usize = EncoderState::RUN - 16;
 
 // A zero closes the group that is open, and the next opens at `at`. Answers the open group's place.
 fn mark(dest: &mut [u8], place: usize, at: usize, byte: u8) -> usize
-    requires { ⌜ (place < at) × (at ≤ place + 255) × (place < length (now dest)) ⌝ }
+    requires { ⌜ Closes place at × (place < length (now dest)) ⌝ }
     ensures place { λ r. ⌜ r ≡ (if eqb byte 0 then at else place) ⌝ }
     ensures memory { λ _. ⌜ now (dest .exit) ≡ (if eqb byte 0 then set (now (dest .entry)) place (at - place) else now (dest .entry)) ⌝ }
 {
@@ -27,8 +31,8 @@ fn mark(dest: &mut [u8], place: usize, at: usize, byte: u8) -> usize
 
 // The codes of the groups that close among sixteen bytes that are copied already.
 fn marks(src: &[u8], i: usize, dest: &mut [u8], out: usize, first: usize) -> usize
-    requires { ⌜ Open (now src) i first out 16 (now dest) × (out + 16 ≤ first + 254) ⌝ }
-    ensures next { λ r. ⌜ Open (now (src .entry)) (i + 16) r (out + 16) 0 (now (dest .exit)) × (out + 16 ≤ r + 254) ⌝ }
+    requires { ⌜ Open (now src) i first out 16 (now dest) × Short first (out + 16) ⌝ }
+    ensures next { λ r. ⌜ Open (now (src .entry)) (i + 16) r (out + 16) 0 (now (dest .exit)) × Short r (out + 16) ⌝ }
     ensures kept { λ _. ⌜ Kept (now (src .entry)) (now (dest .entry)) (now (dest .exit)) ⌝ }
 {
     let mut place = first;
@@ -42,8 +46,8 @@ fn marks(src: &[u8], i: usize, dest: &mut [u8], out: usize, first: usize) -> usi
 
 // The next sixteen bytes, where the open group has room for them. Answers the open group's place.
 fn block(src: &[u8], i: usize, dest: &mut [u8], out: usize, place: usize) -> usize
-    requires { ⌜ Open (now src) i place out 0 (now dest) × (i + 16 ≤ length (now src)) × (out + 16 ≤ place + 254) ⌝ }
-    ensures next { λ r. ⌜ Open (now (src .entry)) (i + 16) r (out + 16) 0 (now (dest .exit)) × (out + 16 ≤ r + 254) ⌝ }
+    requires { ⌜ Open (now src) i place out 0 (now dest) × (i + 16 ≤ length (now src)) × Short place (out + 16) ⌝ }
+    ensures next { λ r. ⌜ Open (now (src .entry)) (i + 16) r (out + 16) 0 (now (dest .exit)) × Short r (out + 16) ⌝ }
     ensures kept { λ _. ⌜ Kept (now (src .entry)) (now (dest .entry)) (now (dest .exit)) ⌝ }
 {
     let taken = take16(dest, out, src, i);
@@ -64,7 +68,7 @@ fn bytes(src: &[u8], from: usize, dest: &mut [u8], at: usize, place: usize) -> u
     ensures next { λ r. ⌜ Open (now (src .entry)) r place (at + (r - from)) 0 (now (dest .exit)) × Ends (now (src .entry)) from r place at ⌝ }
     ensures kept { λ _. ⌜ Kept (now (src .entry)) (now (dest .entry)) (now (dest .exit)) ⌝ }
 {
-    let room = 255 - (at - place);
+    let room = EncoderState::FULL_LENGTH - (at - place);
     let left = src.len() - from;
     let stop = if left < room {
         from + left
@@ -97,7 +101,7 @@ pub(crate) fn put(src: &[u8], dest: &mut [u8]) -> usize
     let mut i = 0;
     loop {
         if 16 <= n - i {
-            if out - place <= 238 {
+            if out - place <= BLOCK_ROOM {
                 place = block(src, i, dest, out, place);
                 i += 16;
                 out += 16;
@@ -111,7 +115,7 @@ pub(crate) fn put(src: &[u8], dest: &mut [u8]) -> usize
         if i == n {
             return out;
         }
-        if out - place < 255 {
+        if out - place < EncoderState::FULL_LENGTH {
             i += 1;
         }
         place = out;

@@ -1,5 +1,6 @@
 //! One message into one buffer. What a call needs is known before its first write.
 use crate::fast::put;
+use crate::state::EncoderState;
 use blocks::clear16;
 use cobs::Length;
 ghost use mathlib.Core.Path.{_≡_};
@@ -112,7 +113,7 @@ fn room_for(src: &[u8], most: usize, room: usize) -> Room
 }
 
 // The encoding's length: a byte for each byte, one for the first code, and one for each full group with more behind it.
-// A zero among the next 254 bytes lets no group before it grow full, so the last such zero is looked for.
+// A zero within the length of a run lets no group before it grow full, so the last such zero is looked for.
 fn measured(src: &[u8]) -> usize
     requires { ⌜ length (now src) ≤ longest ⌝ }
     ensures { λ r. ⌜ r ≡ length (encoding (now (src .entry))) ⌝ }
@@ -120,10 +121,10 @@ fn measured(src: &[u8]) -> usize
     let n = src.len();
     let mut start = 0;
     let mut more = 1;
-    while 254 < n - start {
-        let next = after_last_zero(src, start, start + 254);
+    while EncoderState::RUN < n - start {
+        let next = after_last_zero(src, start, start + EncoderState::RUN);
         if next == start {
-            start += 254;
+            start += EncoderState::RUN;
             more += 1;
             continue;
         }

@@ -1,7 +1,7 @@
 //! The encoder's state alone: what each byte asks of the output, for a caller who keeps the output.
 ghost use mathlib.Core.Path.{_≡_};
 ghost use mathlib.Core.Bool.{false};
-ghost use Rattle.enc.specs.State.{freshState, step, stateBad, statePush, stateFinalize};
+ghost use Rattle.enc.specs.State.{freshState, step, stateBad, statePush, toldAsked, statePushTold, stateFinalize, toldStateFinished, stateFinalizeTold};
 
 /// The output starts with one byte held open for a code. `place` is where the open group's code is to stand, `code` what
 /// it is if the group closes now.
@@ -33,12 +33,21 @@ pub enum StateFinished {
     BadState,
 }
 
-// The largest usize less 255: from here a group can still close.
-const PLACE_LIMIT: usize = 0xffff_ffff_ffff_ff00;
-
 impl EncoderState {
     /// The most bytes of one group.
     pub const RUN_LIMIT: u8 = 254;
+
+    // The same, to count bytes by.
+    pub(crate) const RUN: usize = EncoderState::RUN_LIMIT as usize;
+
+    // The code of a full group.
+    pub(crate) const FULL_CODE: u8 = EncoderState::RUN_LIMIT + 1;
+
+    // How many bytes of the output a full group takes, its code among them.
+    pub(crate) const FULL_LENGTH: usize = EncoderState::RUN + 1;
+
+    // The largest usize less a full group: from here a group can still close.
+    const PLACE_LIMIT: usize = 0xffff_ffff_ffff_ffff - EncoderState::FULL_LENGTH;
 
     /// Before the first byte.
     pub fn new() -> Self
@@ -49,7 +58,8 @@ impl EncoderState {
 
     /// One byte. A refused state comes back as it went in.
     pub fn push(self, byte: u8) -> StatePushed
-        ensures { λ r. ⌜ r ≡ statePush self byte ⌝ }
+        ensures state { λ r. ⌜ r ≡ statePush self byte ⌝ }
+        ensures answer { λ r. ⌜ toldAsked (r .result) ≡ statePushTold self byte ⌝ }
     {
         if is_bad(self) {
             return StatePushed {
@@ -62,7 +72,8 @@ impl EncoderState {
 
     /// The end of the message.
     pub fn finalize(self) -> StateFinished
-        ensures { λ r. ⌜ r ≡ stateFinalize self ⌝ }
+        ensures state { λ r. ⌜ r ≡ stateFinalize self ⌝ }
+        ensures answer { λ r. ⌜ toldStateFinished r ≡ stateFinalizeTold self ⌝ }
     {
         if is_bad(self) {
             return StateFinished::BadState;
@@ -84,10 +95,10 @@ fn is_bad(s: EncoderState) -> bool
     if EncoderState::RUN_LIMIT < s.code {
         return true;
     }
-    PLACE_LIMIT < s.place
+    EncoderState::PLACE_LIMIT < s.place
 }
 
-// One byte: a zero closes the group, the 254th nonzero byte closes it full, and any other is added.
+// One byte: a zero closes the group, the nonzero byte that reaches the run limit closes it full, and any other is added.
 fn stepped(s: EncoderState, byte: u8) -> StatePushed
     requires { ⌜ stateBad s ≡ false ⌝ }
     ensures { λ r. ⌜ r ≡ step s byte ⌝ }
@@ -107,11 +118,11 @@ fn stepped(s: EncoderState, byte: u8) -> StatePushed
         return StatePushed {
             result: PushResult::ModifyFromStartAndPushAndSkip {
                 place,
-                code: 255,
+                code: EncoderState::FULL_CODE,
                 byte,
             },
             next: EncoderState {
-                place: place + 255,
+                place: place + EncoderState::FULL_LENGTH,
                 code: 1,
             },
         };

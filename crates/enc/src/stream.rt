@@ -8,7 +8,7 @@ ghost use Prim.Native.Nat.{_+_, _^_, _≤_, _<_};
 ghost use lib.ListN.{length, set};
 ghost use Rattle.cobs.specs.Answers.{longest};
 ghost use Rattle.enc.specs.State.{noCode, stateBad};
-ghost use Rattle.enc.specs.Stream.{closesFull, obeyed, moved, wrote, moveAll, writeAll, finishedLength, isBad, started, told, pushTold, pushNext, pushDest, toldFinished, finishTold, finishDest};
+ghost use Rattle.enc.specs.Stream.{fresh, closesFull, obeyed, moved, wrote, moveAll, writeAll, finishedLength, isBad, started, toldStarted, startTold, told, pushTold, pushNext, pushDest, toldFinished, finishTold, finishDest};
 
 /// `full`: a just-closed full group ends the input. `count`: the bytes accepted.
 pub struct Encoder {
@@ -44,18 +44,26 @@ pub enum Finished {
 }
 
 impl Encoder {
+    /// Before the first byte.
+    pub fn new() -> Self
+        ensures { λ r. ⌜ r ≡ fresh ⌝ }
+    {
+        Encoder {
+            state: EncoderState::new(),
+            full: false,
+            count: 0,
+        }
+    }
+
     /// An encoder for this buffer, which it leaves as it is. The finished encoding of nothing needs one byte.
     pub fn start(dest: &[u8]) -> Started
-        ensures { λ r. ⌜ r ≡ started (length (now (dest .entry))) ⌝ }
+        ensures state { λ r. ⌜ r ≡ started (length (now (dest .entry))) ⌝ }
+        ensures answer { λ r. ⌜ toldStarted r ≡ startTold (length (now (dest .entry))) ⌝ }
     {
         if dest.len() == 0 {
             return Started::DestBufTooSmall;
         }
-        Started::Ready(Encoder {
-            state: EncoderState::new(),
-            full: false,
-            count: 0,
-        })
+        Started::Ready(Encoder::new())
     }
 
     /// Takes the whole piece, or refuses it and changes nothing.
@@ -130,7 +138,7 @@ fn judged(e: Encoder, piece: &[u8], room: usize) -> Accepted
         return Accepted::TooLong;
     }
     let open = e.state.code as usize + piece.len();
-    if e.state.place + open + open / 254 <= room {
+    if e.state.place + open + open / EncoderState::RUN <= room {
         return Accepted::Accepted;
     }
     if room < measured(e, piece) {
@@ -158,7 +166,7 @@ fn measured(e: Encoder, piece: &[u8]) -> usize
             continue;
         }
         if code == EncoderState::RUN_LIMIT {
-            place += 255;
+            place += EncoderState::FULL_LENGTH;
             code = 1;
             full = true;
             continue;

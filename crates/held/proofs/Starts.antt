@@ -1,45 +1,33 @@
 -- What `Encoder::start` answers, and what an encoder that could not start does afterwards. Assumes nothing.
 use mathlib.Core.Path.{_≡_, refl, sym, ap, _∙_}
-use mathlib.Core.Bool.{Bool, true, false}
+use mathlib.Core.Bool.{true}
 use mathlib.Core.List.{List, [], _∷_}
 use Prim.Native.Nat.{ℕ}
-use lib.Dec.{eqb}
 use lib.ListN.{length}
 use denote.Ref.{RefT, now}
 use denote.Enum.Declared.{tagOf}
 use types.Run.{OneOf, miss}
-use Rattle.cobs.specs.Words.{if_then_else_}
 use Rattle.cobs.specs.Answers.{done, destBufTooSmall, badState}
-use Rattle.enc.specs.Stream.{fresh, started, isBad, pushTold, pushNext, pushDest, finishTold, finishDest}
+use Rattle.enc.specs.Stream.{fresh, started, toldStarted, startTold, isBad, pushTold, pushNext, pushDest, finishTold, finishDest}
 use Rattle.enc.specs.declared.stream.Encoder.{Encoder}
 use Rattle.enc.specs.declared.stream.Started.{Started}
 use Rattle.enc.specs.declared.stream.Started.the-variants as start
+use Rattle.enc.proofs.Calls.{ready-fresh}
 use Rattle.enc.proofs.stream.Started.{the-type}
-use Rattle.held.specs.Held.{toldStarted, over, pushed}
+use Rattle.held.specs.Held.{over, pushed}
 
--- the encoder of an answer, a fresh one for a refusal
-inside : Started → Encoder
-inside (start.Ready e) = e
-inside start.DestBufTooSmall = fresh
-
-started-fresh : (room : ℕ) → inside (started room) ≡ fresh
-unfolding started inside
-started-fresh room = go (eqb room 0)
-  where
-    go : (t : Bool) → inside (if t then start.DestBufTooSmall else start.Ready fresh) ≡ fresh
-    go true = refl
-    go false = refl
-
-pub start-ready : (e : Encoder) (room : ℕ) (s : Started) → s ≡ started room → s ≡ start.Ready e → (done 0 0 ≡ toldStarted (started room)) × (e ≡ fresh)
-unfolding inside
-start-ready e room s p q = (ap toldStarted (sym q ∙ p), ap inside (sym q ∙ p) ∙ started-fresh room)
+-- ---- What `start` told
 
 told-refused : (s : Started) → OneOf (1 ∷ []) (tagOf the-type s) → destBufTooSmall ≡ toldStarted s
 told-refused (start.Ready e) h = absurd (miss (1 ∷ []) 0 tt h)
 told-refused start.DestBufTooSmall h = refl
 
-pub start-refused : (room : ℕ) (s : Started) → s ≡ started room → OneOf (1 ∷ []) (tagOf the-type s) → destBufTooSmall ≡ toldStarted (started room)
-start-refused room s p h = told-refused s h ∙ ap toldStarted p
+module _ (room : ℕ) (s : Started) (p : s ≡ started room) (t : toldStarted s ≡ startTold room) where
+  pub start-ready : (e : Encoder) → s ≡ start.Ready e → (done 0 0 ≡ startTold room) × (e ≡ fresh)
+  start-ready e q = (sym (ap toldStarted q) ∙ t, ready-fresh room e (sym p ∙ q) .1)
+
+  pub start-refused : OneOf (1 ∷ []) (tagOf the-type s) → destBufTooSmall ≡ startTold room
+  start-refused h = told-refused s h ∙ t
 
 -- ---- After a refusal: the slice has length 0, and every call is a BadState that changes nothing
 

@@ -8,13 +8,13 @@ use denote.Ref.{RefT, now}
 use Rattle.cobs.specs.Words.{if_then_else_}
 use Rattle.cobs.specs.Answers.{Told, done, isDone}
 use Rattle.cobs.proofs.Told.{one-result}
-use Rattle.enc.specs.Stream.{fresh, started, told, pushTold, pushNext, toldFinished, finishTold, finishDest}
+use Rattle.enc.specs.Stream.{fresh, startTold, told, pushTold, pushNext, toldFinished, finishTold, finishDest}
 use Rattle.enc.specs.declared.stream.Encoder.{Encoder}
 use Rattle.enc.specs.declared.stream.Accepted.{Accepted}
 use Rattle.enc.specs.declared.stream.Pushed.{Pushed}
 use Rattle.enc.specs.declared.stream.Finished.{Finished}
 use Rattle.enc.proofs.Unique.{unique-Encoder-push, unique-Encoder-finalize}
-use Rattle.held.specs.Held.{toldOpened, toldStarted, over, pushed, next₁, dest₁, next₂, dest₂, toldTwo, twoTold, twoDest}
+use Rattle.held.specs.Held.{toldOpened, over, pushed, next₁, dest₁, next₂, dest₂, toldTwo, twoTold, twoDest}
 use Rattle.held.specs.declared.Opened.{Opened}
 use Rattle.held.specs.declared.Opened.the-variants.{Ready, DestBufTooSmall}
 use Rattle.held.specs.declared.CobsEncoder.{CobsEncoder}
@@ -36,7 +36,7 @@ one-opened a b p q = one-result toldOpened opened-back opened-undone p q
 
 -- What `new` promises of its result r, on the slice x.
 abbrev Makes : RefT (List ℕ) → NewEncoder → Type 0
-Makes x r = (toldOpened (r .answer) ≡ toldStarted (started (length (now x)))) × (r .encoder ≡ over x)
+Makes x r = (toldOpened (r .answer) ≡ startTold (length (now x))) × (r .encoder ≡ over x)
 
 pub unique-new : (x : RefT (List ℕ)) (r s : NewEncoder) → Makes x r → Makes x s → r ≡ s
 unique-new x r s p q i = record { encoder = (p .1 ∙ sym (q .1)) i; answer = one-opened (r .answer) (s .answer) (p .0) (q .0) i }

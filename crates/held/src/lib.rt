@@ -1,13 +1,12 @@
 //! The streaming encoder that holds its output slice: thin over `enc::stream::Encoder`, which does the work by value.
-use enc::state::EncoderState;
 use enc::stream::Accepted;
 use enc::stream::Encoder;
 use enc::stream::Finished;
 use enc::stream::Started;
 ghost use mathlib.Core.Path.{_≡_};
 ghost use lib.ListN.{length};
-ghost use Rattle.enc.specs.Stream.{fresh, started, told, pushTold, toldFinished, finishTold, finishDest};
-ghost use Rattle.held.specs.Held.{toldOpened, toldStarted, over, pushed, toldTwo, twoTold, twoDest};
+ghost use Rattle.enc.specs.Stream.{fresh, startTold, told, pushTold, toldFinished, finishTold, finishDest};
+ghost use Rattle.held.specs.Held.{toldOpened, over, pushed, toldTwo, twoTold, twoDest};
 
 /// The lent buffer, and the encoder that writes to it.
 pub struct CobsEncoder<'a> {
@@ -43,7 +42,7 @@ struct Opening {
 impl<'a> CobsEncoder<'a> {
     /// An encoder on this buffer, which it leaves as it is.
     pub fn new(dest: &'a mut [u8]) -> NewEncoder<'a>
-        ensures { λ r. ⌜ (toldOpened (r .answer) ≡ toldStarted (started (length (now (dest .entry)))))
+        ensures { λ r. ⌜ (toldOpened (r .answer) ≡ startTold (length (now (dest .entry))))
             × (r .encoder ≡ over (dest .entry)) ⌝ }
     {
         let opening = start_on(&mut *dest);
@@ -99,17 +98,13 @@ pub fn encode_two(dest: &mut [u8], first: &[u8], second: &[u8]) -> TwoPieces
 // The encoder to begin with. Where none can start it is a fresh one all the same, which on a buffer of length 0 is a BadState.
 // The slice is only read; it is taken as `new` has it, so that one way of lending it on serves every call.
 fn start_on(dest: &mut [u8]) -> Opening
-    ensures answer { λ r. ⌜ toldOpened (r .answer) ≡ toldStarted (started (length (now (dest .entry)))) ⌝ }
+    ensures answer { λ r. ⌜ toldOpened (r .answer) ≡ startTold (length (now (dest .entry))) ⌝ }
     ensures encoder { λ r. ⌜ r .encoder ≡ fresh ⌝ }
     ensures memory { λ _. ⌜ now (dest .exit) ≡ now (dest .entry) ⌝ }
 {
     let Started::Ready(encoder) = Encoder::start(dest) else {
         return Opening {
-            encoder: Encoder {
-                state: EncoderState::new(),
-                full: false,
-                count: 0,
-            },
+            encoder: Encoder::new(),
             answer: Opened::DestBufTooSmall,
         };
     };

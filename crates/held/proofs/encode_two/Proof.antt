@@ -39,14 +39,14 @@ use denote.Triple.Call.{calls-at}
 use denote.Triple.Clauses.{ensured, lasts}
 use denote.Triple.Table.{entered, cited}
 use denote.Triple.Walked.{says, Stays, gave-slice, stay-none-slice, walkOf, goes-gave-slice, goes-none-slice, Walks, ends-at, walked, walk-meets}
-use Rattle.enc.specs.Stream.{fresh, started, told, pushTold, toldFinished, finishTold, finishDest}
+use Rattle.enc.specs.Stream.{fresh, startTold, told, pushTold, toldFinished, finishTold, finishDest}
 use Rattle.enc.specs.declared.stream.Finished.{Finished}
 use Rattle.enc.proofs.Joined.{length-dest}
 use Rattle.enc.proofs.stream.Accepted as accepted
 use Rattle.enc.proofs.stream.Accepted.Laws as accepted′
 use Rattle.enc.proofs.stream.Finished as finished
 use Rattle.enc.proofs.stream.Finished.Laws as finished′
-use Rattle.held.specs.Held.{toldOpened, toldStarted, over, pushed, next₁, dest₁, next₂, dest₂, toldTwo, twoTold, twoDest}
+use Rattle.held.specs.Held.{toldOpened, over, pushed, next₁, dest₁, next₂, dest₂, toldTwo, twoTold, twoDest}
 use Rattle.held.specs.declared.CobsEncoder.{CobsEncoder}
 use Rattle.held.specs.declared.Opened.{Opened}
 use Rattle.held.specs.declared.NewEncoder.{NewEncoder}
@@ -83,7 +83,7 @@ left = (
 
 -- What each call tells makes what all of them tell, and the buffer that the last leaves is the buffer afterwards.
 module _ (d a b : List ℕ) (r : TwoPieces) (zs : List ℕ) where
-  all-told : toldOpened (r .opened) ≡ toldStarted (started (length d)) → told (r .first) ≡ pushTold fresh a (length d)
+  all-told : toldOpened (r .opened) ≡ startTold (length d) → told (r .first) ≡ pushTold fresh a (length d)
       → told (r .second) ≡ pushTold (next₁ d a) b (length (dest₁ d a)) → toldFinished (r .finished) ≡ finishTold (next₂ d a b) (length (dest₂ d a b))
       → toldTwo r ≡ twoTold d a b
   unfolding twoTold
@@ -153,7 +153,7 @@ module _ {M : Type 1} (𝓤 : URA M) (H : Heap 𝓤) (A : Atoms 𝓤) (W : Given
     started-at o = struct.val (made.the-type α) (made′.the-laws α) (started-with o)
 
     abbrev Made : NewEncoder → Type 0
-    Made r = (toldOpened (r .answer) ≡ toldStarted (started (length (x .now)))) × (r .encoder ≡ h₀)
+    Made r = (toldOpened (r .answer) ≡ startTold (length (x .now))) × (r .encoder ≡ h₀)
 
     new-told : (r : NewEncoder) → ent 𝓤 (ensured 𝓤 H A new.ended (new.clauses 𝓤 H A memory run) (κ, tt) (x, tt) tt r) (fact 𝓤 (Made r))
     new-told r = exE 𝓤 _ (λ ws. snd∗ 𝓤 (sem 𝓤 H A (lasts new.ended (κ, tt) (x, tt) ws)) (fact 𝓤 (Made r)))

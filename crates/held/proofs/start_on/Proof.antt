@@ -27,7 +27,8 @@ same-length-2 : tie.Need-same-length-2
 same-length-2 c = search needs
 
 returns-2 : tie.Need-returns-2
-returns-2 c = let said = start-ready _ _ _ (c .before .before .before .start .ensures) (c .before .encoder .given .1) in (said .0, (said .1, refl))
+returns-2 c = let started = c .before .before .before .start .ensures in
+    let said = start-ready _ _ (started .0) (started .1) _ (c .before .encoder .given .1) in (said .0, (said .1, refl))
 
 pub start-on-spec : {M : Type 1} → statement M
 start-on-spec =

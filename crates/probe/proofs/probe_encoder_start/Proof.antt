@@ -17,7 +17,7 @@ enum-told : tie.Need-enum-told
 enum-told c = search needs
 
 returns-2 : tie.Need-returns-2
-returns-2 c = start-refused _ _ _ (c .before .before .before .if1 .left) (c .before .before .start .ensures) (c .enum-told .given .1)
+returns-2 c = start-refused _ _ _ (c .before .before .before .if1 .left) (c .before .before .start .ensures .0) (c .enum-told .given .1)
 
 put-encoder-requires : tie.Need-put-encoder-requires
 put-encoder-requires c κs = search needs
@@ -27,7 +27,7 @@ same-length c = search needs
 
 returns-3 : tie.Need-returns-3
 returns-3 c =
-    start-ready _ _ _ _ _ (c .before .before .before .before .before .before .before .before .if1 .left) (c .before .before .before .before .before .before .before .start .ensures)
+    start-ready _ _ _ _ _ (c .before .before .before .before .before .before .before .before .if1 .left) (c .before .before .before .before .before .before .before .start .ensures .0)
     (c .before .before .before .before .before .encoder .given .1) (c .before .before .put-encoder .ensures)
 
 pub probe-encoder-start-spec : {M : Type 1} → statement M

@@ -2,14 +2,14 @@
 use mathlib.Core.Path.{refl}
 use Prim.Native.Nat.{_+_, _-_, _≤_}
 use native.Mathlib.Omega.{arith}
-use Rattle.enc.specs.Fast.{Open, Kept}
+use Rattle.enc.specs.Fast.{Short, Open, Kept}
 use Rattle.enc.proofs.Opens.{inside, kept-refl, kept-on, same-open}
 use Rattle.enc.proofs.Turns.{mark-turn}
 use Rattle.enc.proofs.fast.marks.Statement.{statement}
 use Rattle.enc.proofs.fast.marks.Tie as tie
 
 abbrev Inv-loop : tie.InvT-loop
-Inv-loop src i dest₀ out first place₀ k₀ dest place k = (k ≤ 16) × (out + 16 ≤ place + 254) × Open src (i + k) place (out + k) (16 - k) dest × Kept src dest₀ dest
+Inv-loop src i dest₀ out first place₀ k₀ dest place k = (k ≤ 16) × Short place (out + 16) × Open src (i + k) place (out + k) (16 - k) dest × Kept src dest₀ dest
 
 abbrev μ-loop : tie.MeasureT-loop
 μ-loop src i dest₀ out first place₀ k₀ dest place k = 16 - k
@@ -29,7 +29,7 @@ shared-slice-read-mark c = omega (arith, c .before .before .before .before .befo
 mark-requires : tie.Need-mark-requires Inv-loop μ-loop
 mark-requires c κs =
     let v = c .before .before .before .loop .inv in
-    (omega (arith, inside (v .2)), omega arith, omega (arith, inside (v .2), v .2 .within))
+    ((omega (arith, inside (v .2)), omega arith), omega (arith, inside (v .2), v .2 .within))
 
 add-k : tie.Need-add-k Inv-loop μ-loop
 add-k c = omega arith

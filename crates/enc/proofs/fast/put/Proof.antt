@@ -1,16 +1,16 @@
 -- `enc::fast::put` meets its contract. Assumes nothing.
 use mathlib.Core.Logic.{⊎-elim}
-use Prim.Native.Nat.{_+_, _-_, _≤_, _<_}
+use Prim.Native.Nat.{_-_, _<_}
 use native.Mathlib.Omega.{arith}
 use lib.ListN.{length, length-set}
-use Rattle.enc.specs.Fast.{Open, Kept}
+use Rattle.enc.specs.Fast.{Short, Open, Kept}
 use Rattle.enc.proofs.Opens.{kept-refl, kept-on, first-open, all-written, kept-code, close-end, inside}
 use Rattle.enc.proofs.Turns.{group-turn}
 use Rattle.enc.proofs.fast.put.Statement.{statement}
 use Rattle.enc.proofs.fast.put.Tie as tie
 
 abbrev Inv-loop : tie.InvT-loop
-Inv-loop src dest₀ n place₀ out₀ i₀ dest place out i = Open src i place out 0 dest × Kept src dest₀ dest × (out ≤ place + 254)
+Inv-loop src dest₀ n place₀ out₀ i₀ dest place out i = Open src i place out 0 dest × Kept src dest₀ dest × Short place out
 
 abbrev μ-loop : tie.MeasureT-loop
 μ-loop src dest₀ n place₀ out₀ i₀ dest place out i = length src - i

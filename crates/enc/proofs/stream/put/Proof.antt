@@ -27,9 +27,12 @@ same-length c = search needs
 
 returns : tie.Need-returns
 returns c =
-    let g = sound _ .holds (c .before .before .before .before .before .before .before .before .before .before .before .pre .0) in
-    let q = c .before .before .before .before .before .before .push .ensures in
-    let o = c .before .before .before .before .obey .ensures in
+    let at-obey = c .before .before .before .before in
+    let at-push = at-obey .before .before in
+    let at-state = at-push .before .before in
+    let g = sound _ .holds (at-state .before .before .before .pre .0) in
+    let q = at-push .push .ensures .0 in
+    let o = at-obey .obey .ensures in
     (rw (o .0) (after-moved _ _ g _ q), o .1 ∙ obeyed-wrote _ _ g _ q _)
 
 pub put-spec : {M : Type 1} → statement M

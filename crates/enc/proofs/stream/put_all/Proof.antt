@@ -2,10 +2,8 @@
 use Prim.Native.Nat.{_-_}
 use native.Mathlib.Omega.{arith}
 use lib.ListN.{length}
-use lib.ListN.{length}
 use Rattle.enc.proofs.Steps.{in-group, sound}
 use Rattle.enc.proofs.Loops.{Writing, going-sound, writing-start, writing-on, writing-end}
-use Rattle.enc.proofs.Loops.{going-sound, writing-on, writing-end}
 use Rattle.enc.proofs.stream.put_all.Statement.{statement}
 use Rattle.enc.proofs.stream.put_all.Tie as tie
 

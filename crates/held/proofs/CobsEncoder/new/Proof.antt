@@ -38,10 +38,10 @@ use denote.Triple.Call.{calls-at}
 use denote.Triple.Clauses.{ensured, lasts}
 use denote.Triple.Table.{entered, cited}
 use denote.Triple.Walked.{says, Stays, stay-dropped, walkOf, goes-spent-slice, Walks, ends-at, walked, walk-meets}
-use Rattle.enc.specs.Stream.{fresh, started}
+use Rattle.enc.specs.Stream.{fresh, startTold}
 use Rattle.enc.proofs.stream.Encoder as inner
 use Rattle.enc.proofs.stream.Encoder.Laws as inner′
-use Rattle.held.specs.Held.{toldOpened, toldStarted}
+use Rattle.held.specs.Held.{toldOpened}
 use Rattle.held.specs.declared.CobsEncoder.{CobsEncoder}
 use Rattle.held.specs.declared.NewEncoder.{NewEncoder}
 use Rattle.held.specs.declared.Opening.{Opening}
@@ -109,7 +109,7 @@ module _ {M : Type 1} (𝓤 : URA M) (H : Heap 𝓤) (A : Atoms 𝓤) (W : Given
         nothing ! $ move ! (2 ∷ 0 ∷ []) $ fjoin ! $ nothing ! $ move ! (2 ∷ 0 ∷ []) $ join ! $ join ! $ frame ! $ done !
 
     abbrev Tells : Opening → Type 0
-    Tells r = toldOpened (r .answer) ≡ toldStarted (started (length (x .now)))
+    Tells r = toldOpened (r .answer) ≡ startTold (length (x .now))
 
     abbrev IsFresh : Opening → Type 0
     IsFresh r = r .encoder ≡ fresh

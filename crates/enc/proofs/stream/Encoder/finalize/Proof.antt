@@ -16,9 +16,13 @@ good-here c = good _ _ .holds (sym (c .before .is-bad .ensures) ∙ c .if1 .left
 sound-here : (c : tie.Else1) → Sound (c .before .before .before .args .self .state)
 sound-here c = good-sound _ _ (good-here c) (omega arith)
 
-asked : (c : tie.After-known-told) → let s = c .before .before .before .before .before .before .before .before .args .self .state in
+-- where the state was found good
+abbrev at-good : tie.After-known-told → tie.Else1
+at-good c = c .before .before .before .before .before
+
+asked : (c : tie.After-known-told) → let s = at-good c .before .before .before .args .self .state in
     (c .before .place .given .0 .0 ≡ s .place) × (c .before .place .given .0 .1 .0 ≡ s .code)
-asked c = finalize-asks _ (sound-here (c .before .before .before .before .before)) _ (c .before .before .before .finalize .ensures) _ _ (c .before .place .given .1)
+asked c = finalize-asks _ (sound-here (at-good c)) _ (c .before .before .before .finalize .ensures .0) _ _ (c .before .place .given .1)
 
 is-bad-requires : tie.Need-is-bad-requires
 is-bad-requires c κs = search needs
@@ -36,28 +40,27 @@ enum-told : tie.Need-enum-told
 enum-told c = search needs
 
 returns-2 : tie.Need-returns-2
-returns-2 c = absurd (finalize-not-bad _ (sound-here (c .before .before .before .before)) _ (c .before .before .finalize .ensures) (c .enum-told .given .1))
+returns-2 c = absurd (finalize-not-bad _ (sound-here (c .before .before .before .before)) _ (c .before .before .finalize .ensures .0) (c .enum-told .given .1))
 
 returns-3 : tie.Need-returns-3
-returns-3 c = rw (asked (c .before) .0) (finish-full _ _ (good-here (c .before .before .before .before .before .before)) (c .if2 .taken))
+returns-3 c = finish-full _ _ (good-here (at-good (c .before))) (c .if2 .taken) _ (asked (c .before) .0)
 
 slice-write-dest : tie.Need-slice-write-dest
 slice-write-dest c =
-    let g = good-here (c .before .before .before .before .before .before) in
-    omega
-    (arith, asked (c .before) .0, finished-open (c .before .before .before .before .before .before .before .before .before .args .self) (c .if2 .left), g .fits, g .group .some)
+    let g = good-here (at-good (c .before)) in
+    omega (arith, asked (c .before) .0, finished-open (at-good (c .before) .before .before .before .args .self) (c .if2 .left), g .fits, g .group .some)
 
 cast-t7 : tie.Need-cast-t7
 cast-t7 c = search needs
 
 add-t11 : tie.Need-add-t11
-add-t11 c = omega (arith, asked (c .before), sound-here (c .before .before .before .before .before .before) .low)
+add-t11 c = omega (arith, asked (c .before), sound-here (at-good (c .before)) .low)
 
 same-length : tie.Need-same-length
 same-length c = search needs
 
 returns-4 : tie.Need-returns-4
-returns-4 c = rw (asked (c .before) .0, asked (c .before) .1) (finish-open _ _ (good-here (c .before .before .before .before .before .before)) (c .if2 .left))
+returns-4 c = finish-open _ _ (good-here (at-good (c .before))) (c .if2 .left) _ _ (asked (c .before) .0) (asked (c .before) .1)
 
 pub finalize-spec : {M : Type 1} → statement M
 finalize-spec =
