@@ -46,13 +46,13 @@ pub enum Refusal {
         /// Bytes decoded before the body ran short.
         decoded: usize,
     },
-    /// The decoded bytes do not fit.
+    /// The decoded bytes do not fit. A receiver skips the rest of the frame, through its zero.
     TargetBufTooSmall,
     /// The encoding does not fit; nothing was written.
     DestBufTooSmall,
     /// More than 1,048,576 bytes.
     TooLong,
-    /// A state that no call leaves; nothing was changed.
+    /// Numbers that name no states, or states that do not go with this buffer and table; nothing was taken or changed.
     BadState,
     /// A message that is not 1 to 15 records.
     BadLength,
@@ -73,7 +73,8 @@ pub enum Refusal {
 /// What a piece of the wire came to.
 #[derive(Clone, Copy, Debug, PartialEq, Eq)]
 pub enum Answer {
-    /// The piece ended inside a frame.
+    /// The whole piece was taken and no frame ended: it ended inside one, or it was empty, idle zeros, or the rest of a frame that
+    /// had no room.
     More,
     /// A frame was taken; the close has not come.
     Open,
@@ -83,7 +84,7 @@ pub enum Answer {
     Complete,
     /// All there, and the total is not the sender's.
     Differs,
-    /// The frame was refused, whole.
+    /// The frame was refused, whole; with BadState nothing was taken at all.
     Refused(Refusal),
 }
 
@@ -234,7 +235,8 @@ pub fn encode_with_sentinel(src: &[u8], dest: &mut [u8], sentinel: u8) -> Result
     .size()
 }
 
-/// Decodes the first frame of `src` to the front of `dest`.
+/// Decodes the first frame of `src` to the front of `dest`. Zeros before it are skipped, a missing last zero is supplied, and what was parsed
+/// counts both where they are there. After InvalidFrame `dest` holds the bytes it counts; after TargetBufTooSmall it is filled.
 ///
 /// ```
 /// use laksovuth::{decode, Frame, Refusal};
@@ -258,7 +260,8 @@ pub fn decode(src: &[u8], dest: &mut [u8]) -> Result<Frame, Refusal> {
     .frame()
 }
 
-/// Decodes the body at the buffer's front where it stands.
+/// Decodes the body at the buffer's front where it stands: up to the first zero, which is not counted as parsed, or the end. No zero before it
+/// is skipped. InvalidFrame counts whole groups alone, and their bytes stand at the front.
 ///
 /// ```
 /// let mut buf = [0x03, 0x11, 0x22, 0x02, 0x33, 0x00];

@@ -27,7 +27,7 @@ pub struct Receipt {
 pub struct Stands {
     /// Open, Missing, Complete, Differs, or the refusal BadState.
     pub answer: Answer,
-    /// The weight of the distinct particles that arrived.
+    /// The weight of the distinct particles that arrived; 0 with BadState.
     pub total: u64,
 }
 
@@ -62,7 +62,8 @@ impl<'a> Receiver<'a> {
         })
     }
 
-    /// Takes a piece up to the end of its first frame; to be called again while bytes of the piece are left.
+    /// Takes a piece up to the end of its first frame or refusal; to be called again while bytes of the piece are left, but not
+    /// after [`Refusal::BadState`], which takes none.
     pub fn receive(&mut self, piece: &[u8]) -> Receipt {
         let mut consumed = 0;
         let answer = told(|value, record| unsafe {
