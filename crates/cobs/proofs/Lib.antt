@@ -9,5 +9,6 @@ pub mod Lengths
 pub mod Over
 pub mod Sentinel
 pub mod OneShot
+pub mod RoundTrips
 pub mod Known
 pub mod Unique
