@@ -14,6 +14,7 @@ pub record Back (m d : List ℕ) (parsed : ℕ) (answer : Told) (after : List �
   pub told : answer ≡ done (length m) parsed
   pub memory : after ≡ over m d
 
+-- What each encoding call writes of message m, and what each decoding call makes of it.
 pub record RoundTrips (m : List ℕ) : Type 0 where
   -- every encoding call: the bytes it answers the length of, at its buffer's front, are the finished encoding
   pub written : (form : Form) (d : List ℕ) → isDone (encodeTold form m (length d)) ≡ true

@@ -14,6 +14,7 @@ pub record Gives (piece m : List ℕ) (answer : Told) (s : List ℕ) : Type 0 wh
   pub told : pushOutcome new (length m) piece .answer ≡ answer
   pub memory : pushDest new piece m ≡ over s m
 
+-- What a new decoder with the destination m makes of an encoding of message s.
 pub record StreamTrips (s m : List ℕ) : Type 0 where
   -- plain, and nothing after it: all of it is decoded, and the zero is waited for
   pub begun : Gives (finished plain s) m more s
