@@ -1,4 +1,4 @@
--- One byte fed to the state: a law for each way through `step`. Assumes nothing.
+-- One byte fed to the state: a law for each way through `step`, and the telling. Assumes nothing.
 use mathlib.Core.Path.{_≡_, refl, ap, _∙_}
 use Prim.Native.Nat.{ℕ, zero, suc, pred, _-_}
 use native.Mathlib.Omega.{arith}
@@ -25,31 +25,11 @@ pub opened-group : (c : ℕ) → opened c ≡ group (eqb c 255) (pred c)
 opened-group c =
     by-bool (eqb c 255) (λ e. rw e (ap GrabChain (let k : c ≡ 255 = eqb-true c 255 e in omega arith))) (λ e. rw e)
 
--- ---- a zero of a group
+-- ---- a zero
 
 pub ended-early : (left : ℕ) → (left ≡ 0 → ⊥) → InvalidFrame ≡ atZero left
 ended-early zero n = absurd (n refl)
 ended-early (suc left) n = refl
-
--- ---- the telling
-
-pub told-given : (s : DecoderState) (b : ℕ) → toldGiven (stepped s b .result) ≡ givenTold s b
-told-given Idle zero = refl
-told-given Idle (suc n) = refl
-told-given (Grab zero) zero = refl
-told-given (Grab (suc left)) zero = refl
-told-given (Grab zero) (suc n) = refl
-told-given (Grab (suc left)) (suc n) = refl
-told-given (GrabChain zero) zero = refl
-told-given (GrabChain (suc left)) zero = refl
-told-given (GrabChain zero) (suc n) = refl
-told-given (GrabChain (suc left)) (suc n) = refl
-
--- it follows from the equation
-pub is-told : (s : DecoderState) (b : ℕ) (r : Stepped) → r ≡ stepped s b → toldGiven (r .result) ≡ givenTold s b
-is-told s b r e = ap (λ (x : Stepped). toldGiven (x .result)) e ∙ told-given s b
-
--- ---- a zero
 
 module _ (s : DecoderState) (b : ℕ) (r : Stepped) where
   module _ (e : b ≡ 0) where
@@ -90,3 +70,21 @@ pub byte-chain : (s : DecoderState) (b : ℕ) (r : Stepped) → (b ≡ 0 → ⊥
 byte-chain s zero r n left q z p = absurd (n refl)
 byte-chain s (suc b) r n zero q z p = absurd (z refl)
 byte-chain s (suc b) r n (suc left) q z p = p ∙ rw q (ap (λ (k : ℕ). gives (GrabChain k) (DataContinue (suc b))) (omega arith))
+
+-- ---- the telling
+
+told-given : (s : DecoderState) (b : ℕ) → toldGiven (stepped s b .result) ≡ givenTold s b
+told-given Idle zero = refl
+told-given Idle (suc n) = refl
+told-given (Grab zero) zero = refl
+told-given (Grab (suc left)) zero = refl
+told-given (Grab zero) (suc n) = refl
+told-given (Grab (suc left)) (suc n) = refl
+told-given (GrabChain zero) zero = refl
+told-given (GrabChain (suc left)) zero = refl
+told-given (GrabChain zero) (suc n) = refl
+told-given (GrabChain (suc left)) (suc n) = refl
+
+-- it follows from the equation
+pub is-told : (s : DecoderState) (b : ℕ) (r : Stepped) → r ≡ stepped s b → toldGiven (r .result) ≡ givenTold s b
+is-told s b r e = ap (λ (x : Stepped). toldGiven (x .result)) e ∙ told-given s b
