@@ -19,7 +19,7 @@ u8 probe_decode_in_place_with_sentinel(u8 *, usize, u8, usize *);
 u8 probe_encoder_start(usize *, usize, const u8 *, usize);
 u8 probe_encoder_push(usize *, usize, u8 *, usize, const u8 *, usize);
 u8 probe_encoder_finalize(const usize *, usize, u8 *, usize, usize *);
-u8 probe_decoder_step(usize *, u8 *, u8, u8 *);
+u8 probe_decoder_step(usize *, u8 *, u8, u8 *, u8 *);
 u8 probe_decoder_push(usize *, usize, u8 *, usize, const u8 *, usize, usize *, usize *);
 
 long read(int, void *, usize);
@@ -144,8 +144,8 @@ static void decode_pieces(const struct head *h) {
 /* The source is a state's number, its bytes left, and the byte. */
 static void step(void) {
   usize state = source[0];
-  u8 left = source[1], given = 0, number = probe_decoder_step(&state, &left, source[2], &given);
-  told(number, given, 0);
+  u8 left = source[1], given = 0, place = 0, number = probe_decoder_step(&state, &left, source[2], &given, &place);
+  told(number, given, place);
   told((u8)state, left, 0);
 }
 

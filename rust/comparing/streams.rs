@@ -16,8 +16,8 @@ pub fn encode(case: &Case, dest: &mut [u8]) -> Vec<Told> {
     told
 }
 
-/// One byte to a state: what it gives, in the order of the declaration, and the state after it. The source is the state's number, its
-/// bytes left, and the byte.
+/// One byte to a state: the byte that goes on and where in the frame it stands, or 01's refusal; and the state after it. The source is
+/// the state's number, its bytes left, and the byte.
 pub fn step(case: &Case) -> Vec<Told> {
     let (left, byte) = (case.source[1], case.source[2]);
     let mut state = match case.source[0] {
@@ -26,11 +26,11 @@ pub fn step(case: &Case) -> Vec<Told> {
         _ => DecoderState::GrabChain(left),
     };
     let gave = match state.feed(byte) {
-        Ok(DecodeResult::NoData) => told(0, 0, 0),
-        Ok(DecodeResult::DataStart) => told(1, 0, 0),
-        Ok(DecodeResult::DataComplete) => told(2, 0, 0),
-        Ok(DecodeResult::DataContinue(b)) => told(3, b as usize, 0),
-        Err(error) => Told { number: 4, ..refusal(error) },
+        Ok(DecodeResult::NoData) => done(0, 0),
+        Ok(DecodeResult::DataStart) => done(0, 1),
+        Ok(DecodeResult::DataComplete) => done(0, 2),
+        Ok(DecodeResult::DataContinue(b)) => done(b as usize, 3),
+        Err(error) => refusal(error),
     };
     let after = match state {
         DecoderState::Idle => told(0, 0, 0),

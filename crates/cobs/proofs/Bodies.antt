@@ -1,25 +1,19 @@
 -- The body before a zero: what stands after the zero does not matter. Assumes nothing.
-use mathlib.Core.Path.{_≡_, refl, ap}
+use mathlib.Core.Path.{_≡_, refl, sym, ap, _∙_}
 use mathlib.Core.List.{List, [], _∷_, _++_}
-use Prim.Native.Nat.{ℕ, zero, suc, _≤_, _<_, zero-le, suc-le-suc}
-use native.Mathlib.Nat.{not-suc-le-zero}
-use lib.ListN.{length}
+use Prim.Native.Nat.{ℕ, zero, suc, _+_, _≤_, _<_, zero-le, suc-le-suc}
+use native.Mathlib.Nat.{not-suc-le-zero, zero-add, suc-add}
+use lib.ListN.{length, replicate}
 use Rattle.cobs.specs.Code.{NoZero, body}
 use Rattle.cobs.specs.OneShot.{leading, closing}
 
--- a body is all of a list that has no zero
-pub body-all : (s : List ℕ) → NoZero s → body s ≡ s
-body-all [] h = refl
-body-all (zero ∷ s) h = absurd (not-suc-le-zero (h .0))
-body-all (suc b ∷ s) h = ap (λ (t : List ℕ). suc b ∷ t) (body-all s (h .1))
+-- a body is what stands before a zero, or before the end
+pub body-front : (s t : List ℕ) → NoZero s → body t ≡ [] → body (s ++ t) ≡ s
+body-front [] t h e = e
+body-front (zero ∷ s) t h e = absurd (not-suc-le-zero (h .0))
+body-front (suc b ∷ s) t h e = ap (λ (r : List ℕ). suc b ∷ r) (body-front s t (h .1) e)
 
--- and what stands before the zero
-pub body-zero : (s t : List ℕ) → NoZero s → body (s ++ 0 ∷ t) ≡ s
-body-zero [] t h = refl
-body-zero (zero ∷ s) t h = absurd (not-suc-le-zero (h .0))
-body-zero (suc b ∷ s) t h = ap (λ (r : List ℕ). suc b ∷ r) (body-zero s t (h .1))
-
--- whatever stands after a zero
+-- whatever stands after the zero
 pub body-after : (s t : List ℕ) → body (s ++ 0 ∷ t) ≡ body s
 body-after [] t = refl
 body-after (zero ∷ s) t = refl
@@ -35,21 +29,21 @@ length-body [] = zero-le
 length-body (zero ∷ s) = zero-le
 length-body (suc b ∷ s) = suc-le-suc (length-body s)
 
--- a list without a zero has no zero that leads or closes it
+-- none of the bytes of a list without a zero leads or closes it
 pub leading-none : (s t : List ℕ) → NoZero s → 0 < length s → leading (s ++ t) ≡ 0
 leading-none [] t h k = absurd (not-suc-le-zero k)
 leading-none (zero ∷ s) t h k = absurd (not-suc-le-zero (h .0))
 leading-none (suc b ∷ s) t h k = refl
 
-pub closing-zero : (s t : List ℕ) → NoZero s → closing (s ++ 0 ∷ t) ≡ 1
-closing-zero [] t h = refl
-closing-zero (zero ∷ s) t h = absurd (not-suc-le-zero (h .0))
-closing-zero (suc b ∷ s) t h = closing-zero s t (h .1)
+-- zeros in front lead
+pub leading-zeros : (z : ℕ) (s : List ℕ) → leading (replicate z 0 ++ s) ≡ z + leading s
+leading-zeros zero s = sym (zero-add (leading s))
+leading-zeros (suc z) s = ap suc (leading-zeros z s) ∙ sym (suc-add z (leading s))
 
-pub closing-none : (s : List ℕ) → NoZero s → closing s ≡ 0
-closing-none [] h = refl
-closing-none (zero ∷ s) h = absurd (not-suc-le-zero (h .0))
-closing-none (suc b ∷ s) h = closing-none s (h .1)
+pub closing-front : (s t : List ℕ) → NoZero s → closing (s ++ t) ≡ closing t
+closing-front [] t h = refl
+closing-front (zero ∷ s) t h = absurd (not-suc-le-zero (h .0))
+closing-front (suc b ∷ s) t h = closing-front s t (h .1)
 
 pub closing-after : (s t u : List ℕ) → closing (s ++ 0 ∷ t) ≡ closing (s ++ 0 ∷ u)
 closing-after [] t u = refl

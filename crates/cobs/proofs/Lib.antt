@@ -10,5 +10,6 @@ pub mod Over
 pub mod Wide
 pub mod Sentinel
 pub mod OneShot
+pub mod RoundTrips
 pub mod Known
 pub mod Unique

@@ -1,20 +1,22 @@
 -- What the one-shot answers come to: what follows the zero does not matter, and an encoding is decoded to its message.
 -- Assumes nothing.
 use mathlib.Core.Path.{_≡_, refl, ap, _∙_}
+use mathlib.Core.Bool.{false}
 use mathlib.Core.List.{List, [], _∷_, _++_, append-nil}
 use Prim.Native.Nat.{ℕ, zero, suc, _+_, _≤_, _<_}
 use native.Mathlib.Nat.{not-suc-le-zero, le-of-suc-le-suc}
 use native.Mathlib.Omega.{arith}
-use lib.ListN.{length, drop, length-append}
-use lib.Seq.{drop-append-le}
+use lib.Dec.{eqb}
+use lib.ListN.{length, drop, replicate, length-append, length-replicate}
+use lib.Seq.{drop-append-le, drop-at}
 use borrow.Author.Tests.{le-ltb, ne-eqb}
-use Rattle.cobs.specs.Code.{encode, ended, over, masked}
+use Rattle.cobs.specs.Code.{encode, body, ended, over, masked}
 use Rattle.cobs.specs.Answers.{done}
-use Rattle.cobs.specs.OneShot.{leading, skipped, parsed, meant, decoded, decodeTold, decodeDest, inPlaceTold, inPlaceDest, withSentinelTold, withSentinelDest}
+use Rattle.cobs.specs.OneShot.{leading, closing, skipped, parsed, meant, decoded, decodeTold, decodeDest, inPlaceTold, inPlaceDest, withSentinelTold, withSentinelDest}
 use Rattle.cobs.proofs.Encoding.{encode-no-zero, encode-nonempty}
 use Rattle.cobs.proofs.Reading.{read-encode}
-use Rattle.cobs.proofs.Bodies.{body-all, body-zero, body-after, leading-none, closing-zero, closing-none, closing-after}
-use Rattle.cobs.proofs.Sentinel.{masked-back}
+use Rattle.cobs.proofs.Bodies.{body-front, body-after, leading-none, leading-zeros, closing-front, closing-after}
+use Rattle.cobs.proofs.Sentinel.{masked-twice}
 
 some : (s t : List ℕ) (b : ℕ) → length (s ++ b ∷ t) ≡ 0 → ⊥
 some s t b e = omega (arith, length-append s (b ∷ t))
@@ -55,49 +57,56 @@ unfolding inPlaceTold
 inPlace-after s t u =
     rw (ne-eqb (length (s ++ 0 ∷ t)) 0 (some s t 0), ne-eqb (length (s ++ 0 ∷ u)) 0 (some s u 0), body-after s t, body-after s u)
 
--- ---- an encoding is decoded to its message
+-- ---- an encoding is decoded to its message, with the end or a zero and anything after it
 
--- with its zero and anything after it, or with the end
-meant-encode-zero : (m t : List ℕ) → meant (encode m ++ 0 ∷ t) ≡ ended m
-unfolding meant
-meant-encode-zero m t =
-    rw (leading-none (encode m) (0 ∷ t) (encode-no-zero m) (encode-nonempty m), body-zero (encode m) t (encode-no-zero m)) (read-encode m)
+module _ (m t : List ℕ) (e : body t ≡ []) where
+  first-body : body (encode m ++ t) ≡ encode m
+  first-body = body-front (encode m) t (encode-no-zero m) e
 
-pub decode-encode-zero : (m t : List ℕ) (room : ℕ) → length m ≤ room → decodeTold (encode m ++ 0 ∷ t) room ≡ done (length m) (length (encode m) + 1)
-unfolding decodeTold decoded parsed
-decode-encode-zero m t room h =
-    rw (ne-eqb (length (encode m ++ 0 ∷ t)) 0 (some (encode m) t 0), meant-encode-zero m t, append-nil m, le-ltb room (length m) h, leading-none (encode m) (0 ∷ t) (encode-no-zero m) (encode-nonempty m), body-zero (encode m) t (encode-no-zero m), closing-zero (encode m) t (encode-no-zero m))
-    (ap (done (length m)) (omega arith))
+  not-empty : (z : ℕ) → eqb (length (replicate z 0 ++ (encode m ++ t))) 0 ≡ false
+  not-empty z =
+      ne-eqb (length (replicate z 0 ++ (encode m ++ t))) 0
+      (λ q. omega (arith, length-append (replicate z 0) (encode m ++ t), length-append (encode m) t, encode-nonempty m))
 
-pub decodeDest-encode-zero : (m t d : List ℕ) → decodeDest (encode m ++ 0 ∷ t) d ≡ over m d
-unfolding decodeDest decoded
-decodeDest-encode-zero m t d = rw (meant-encode-zero m t, append-nil m)
+  -- and with so many zeros before it
+  module _ (z : ℕ) where
+    abbrev src : List ℕ
+    src = replicate z 0 ++ (encode m ++ t)
 
-pub decode-encode : (m : List ℕ) (room : ℕ) → length m ≤ room → decodeTold (encode m) room ≡ done (length m) (length (encode m))
-unfolding decodeTold decoded parsed meant
-decode-encode m room h =
-    let k : leading (encode m) ≡ 0 = rw append-nil at (leading-none (encode m) [] (encode-no-zero m) (encode-nonempty m)) in
-    rw (ne-eqb (length (encode m)) 0 (λ e. omega (arith, encode-nonempty m)), k, body-all (encode m) (encode-no-zero m), read-encode m, append-nil m, le-ltb room (length m) h, closing-none (encode m) (encode-no-zero m))
-    (ap (done (length m)) (omega arith))
+    starts : leading src ≡ z
+    starts = leading-zeros z (encode m ++ t) ∙ omega (arith, leading-none (encode m) t (encode-no-zero m) (encode-nonempty m))
 
--- in place, with its zero and anything after it
-pub inPlace-encode : (m t : List ℕ) → inPlaceTold (encode m ++ 0 ∷ t) ≡ done (length m) (length (encode m))
-unfolding inPlaceTold
-inPlace-encode m t =
-    rw (ne-eqb (length (encode m ++ 0 ∷ t)) 0 (some (encode m) t 0), body-zero (encode m) t (encode-no-zero m), read-encode m)
+    skips : skipped src ≡ encode m ++ t
+    skips = ap (λ (n : ℕ). drop n src) starts ∙ drop-at (replicate z 0) (encode m ++ t) z (length-replicate z 0)
 
-pub inPlaceDest-encode : (m t : List ℕ) → inPlaceDest (encode m ++ 0 ∷ t) ≡ over m (encode m ++ 0 ∷ t)
-unfolding inPlaceDest
-inPlaceDest-encode m t = rw (body-zero (encode m) t (encode-no-zero m), read-encode m)
+    meant-encode : meant src ≡ ended m
+    unfolding meant
+    meant-encode = rw (skips, first-body) (read-encode m)
 
--- with any sentinel, into another buffer
-pub withSentinel-encode : (s : ℕ) (m t : List ℕ) (room : ℕ) → length m ≤ room
-    → withSentinelTold s (masked s (encode m) ++ s ∷ t) room ≡ done (length m) 0
-unfolding withSentinelTold
-withSentinel-encode s m t room h = rw (masked-back s (encode m) t, inPlace-encode m (masked s t), le-ltb room (length m) h)
+    pub decode-encode : (room : ℕ) → length m ≤ room → decodeTold src room ≡ done (length m) (z + length (encode m) + closing t)
+    unfolding decodeTold decoded parsed
+    decode-encode room h =
+        rw (not-empty z, meant-encode, append-nil m, le-ltb room (length m) h, skips, starts, first-body, closing-front (encode m) t (encode-no-zero m))
 
-pub withSentinelDest-encode : (s : ℕ) (m t d : List ℕ) → length m ≤ length d
-    → withSentinelDest s (masked s (encode m) ++ s ∷ t) d ≡ over m d
-unfolding withSentinelDest
-withSentinelDest-encode s m t d h =
-    rw (withSentinel-encode s m t (length d) h, masked-back s (encode m) t, body-zero (encode m) (masked s t) (encode-no-zero m), read-encode m)
+    pub decodeDest-encode : (d : List ℕ) → decodeDest src d ≡ over m d
+    unfolding decodeDest decoded
+    decodeDest-encode d = rw (meant-encode, append-nil m)
+
+  -- in place
+  pub inPlace-encode : inPlaceTold (encode m ++ t) ≡ done (length m) (length (encode m))
+  unfolding inPlaceTold
+  inPlace-encode = rw (not-empty 0, first-body, read-encode m)
+
+  pub inPlaceDest-encode : inPlaceDest (encode m ++ t) ≡ over m (encode m ++ t)
+  unfolding inPlaceDest
+  inPlaceDest-encode = rw (first-body, read-encode m)
+
+  -- with any sentinel, into another buffer
+  module _ (s : ℕ) (d : List ℕ) (h : length m ≤ length d) where
+    pub withSentinel-encode : withSentinelTold s (masked s (encode m ++ t)) (length d) ≡ done (length m) 0
+    unfolding withSentinelTold
+    withSentinel-encode = rw (masked-twice s (encode m ++ t), inPlace-encode, le-ltb (length d) (length m) h)
+
+    pub withSentinelDest-encode : withSentinelDest s (masked s (encode m ++ t)) d ≡ over m d
+    unfolding withSentinelDest
+    withSentinelDest-encode = rw (withSentinel-encode, masked-twice s (encode m ++ t), first-body, read-encode m)

@@ -1,7 +1,7 @@
 -- XOR with a sentinel, twice, is nothing. Assumes nothing.
 use mathlib.Core.Path.{_≡_, refl, sym, ap, ap₂, _∙_}
 use mathlib.Core.Logic.{_≢_}
-use mathlib.Core.List.{List, [], _∷_, _++_}
+use mathlib.Core.List.{List, [], _∷_}
 use Prim.Native.Nat.{ℕ, zero, suc, _+_, _*_, _/_, _%_, _<_}
 use native.Mathlib.Nat.{div-add-mod', mod-lt, zero-lt-suc}
 use native.Mathlib.Omega.{arith}
@@ -35,16 +35,6 @@ masked-twice s (b ∷ l) = ap₂ (λ (x : ℕ) (t : List ℕ). x ∷ t) (xor-twi
 pub length-masked : (s : ℕ) (l : List ℕ) → length (masked s l) ≡ length l
 length-masked s [] = refl
 length-masked s (b ∷ l) = ap suc (length-masked s l)
-
-pub masked-append : (s : ℕ) (l t : List ℕ) → masked s (l ++ t) ≡ masked s l ++ masked s t
-masked-append s [] t = refl
-masked-append s (b ∷ l) t = ap (λ (r : List ℕ). bitXor b s ∷ r) (masked-append s l t)
-
--- a masked list, the sentinel, and anything: masked again it is the list, a zero, and the rest masked
-pub masked-back : (s : ℕ) (l t : List ℕ) → masked s (masked s l ++ s ∷ t) ≡ l ++ 0 ∷ masked s t
-masked-back s l t =
-    masked-append s (masked s l) (s ∷ t)
-    ∙ ap₂ (λ (a : List ℕ) (z : ℕ). a ++ z ∷ masked s t) (masked-twice s l) (xor-self s)
 
 -- The sentinel is none of the bytes.
 abbrev pub Without : ℕ → List ℕ → Type 0

@@ -5,3 +5,4 @@ pub mod Answers
 pub mod OneShot
 pub mod Lengths
 pub mod Known
+pub mod RoundTrips

@@ -11,7 +11,7 @@ use Rattle.cobs.specs.Words.{if_then_else_}
 use Rattle.cobs.specs.Code.{read, readIn}
 use Rattle.cobs.specs.Answers.{done}
 use Rattle.cobs.specs.OneShot.{meant, decoded, decodeTold, decodeDest}
-use Rattle.dec.specs.Stream.{new, Outcome, told, outcome, isMore, further, joined, pushOutcome, pushDest}
+use Rattle.dec.specs.Stream.{new, Outcome, told, outcome, isMore, further, joined, used, pushOutcome, pushDest}
 use Rattle.dec.specs.Calls.{decodedTold}
 use Rattle.dec.specs.Helpers.{stopped}
 use Rattle.dec.specs.declared.stream.CobsDecoder.{CobsDecoder}
@@ -23,7 +23,7 @@ use Rattle.dec.specs.declared.decode.Decoded.the-variants.{Frame, EmptyF
 use Rattle.dec.proofs.stream.PushAnswer.{the-type}
 use Rattle.dec.proofs.Good.{new-good}
 use Rattle.dec.proofs.Pieces.{joined-more, joined-stop, push-piece, push-cut, pushDest-cut}
-use Rattle.dec.proofs.Restart.{used, used-within}
+use Rattle.dec.proofs.Restart.{used-within}
 use Rattle.dec.proofs.Sources.{oneShot, decode-streams, decodeDest-streams}
 
 -- The answer r and the memory m′ are those of decoding src into m.

@@ -175,9 +175,6 @@ module _ (b t : List ℕ) (h : NoZero b) (k : 0 < length b) where
       → pushOutcome new room (b ++ 0 ∷ t) ≡ frame (read b .whole) (length (bytes (read b))) (suc (length b))
   push-body room l = new-fits (b ++ 0 ∷ t) (bodyRun b) (run-body b t h k) room l ∙ ran-body (read b .whole) (bytes (read b)) (suc (length b))
 
-  pub push-overfull : (room : ℕ) → room < length (bytes (read b)) → (n : ℕ) × (pushOutcome new room (b ++ 0 ∷ t) ≡ stops skipping (targetBufTooSmall n))
-  push-overfull room l = new-small (b ++ 0 ∷ t) (bodyRun b) (run-body b t h k) room l
-
   pub pushDest-body : (d : List ℕ) → pushDest new (b ++ 0 ∷ t) d ≡ over (bytes (read b)) d
   pushDest-body d = new-dest (b ++ 0 ∷ t) (bodyRun b) (run-body b t h k) d
 

@@ -95,6 +95,9 @@ new-good room = of-good new room (good-new room)
 good-skipping : (room : ℕ) → Good skipping room
 good-skipping room = record { within = zero-le; start = λ h. refl; rest = λ h. refl }
 
+pub skipping-good : (room : ℕ) → bad skipping room ≡ false
+skipping-good room = of-good skipping room (good-skipping room)
+
 -- ---- a byte
 
 -- Inside a body.

@@ -9,9 +9,14 @@ pub mod Inside
 pub mod Sixteen
 pub mod Answers
 pub mod Restart
+pub mod Counts
+pub mod Dropped
 pub mod Bare
 pub mod Frames
 pub mod Sources
+pub mod Overfull
+pub mod Sentences
+pub mod RoundTrips
 pub mod Decoding
 pub mod Streamed
 pub mod Wide

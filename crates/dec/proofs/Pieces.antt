@@ -110,6 +110,19 @@ unfolding byteOutcome
 byte-goes d room b =
     by-bool (d .skip) (λ q. rw q (λ e. refl)) (λ q. rw q (result-goes (d .place) room (stepped (d .state) b .state) (stepped (d .state) b .result)))
 
+pub piece-more : (p : List ℕ) (d : CobsDecoder) (room : ℕ) → isMore (pieceOutcome d room p) ≡ true → pieceOutcome d room p ≡ goes (pieceOutcome d room p .next)
+unfolding pieceOutcome
+piece-more [] d room e = refl
+piece-more (b ∷ p) d room e =
+    by-bool (isMore (byteOutcome d room b))
+    (λ f.
+    let rest : Outcome = pieceOutcome (byteOutcome d room b .next) room p in
+    let on : pieceOutcome d room (b ∷ p) ≡ further 1 rest = piece-goes d room b p (byteOutcome d room b .next) (byte-goes d room b f) in
+    let more : isMore rest ≡ true = sym (further-more 1 rest) ∙ ap isMore (sym on) ∙ e in
+    let same : pieceOutcome d room (b ∷ p) ≡ rest = on ∙ further-keeps 1 rest more in
+    same ∙ piece-more p (byteOutcome d room b .next) room more ∙ ap (λ (o : Outcome). goes (o .next)) (sym same))
+    (λ f. absurd (false≢true (sym (ap isMore (piece-stops d room b p f) ∙ f) ∙ e)))
+
 -- ---- cut anywhere
 
 further-joined : (i n : ℕ) (o r : Outcome) → further i (joined o n r) ≡ joined (further i o) (i + n) r

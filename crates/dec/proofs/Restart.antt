@@ -5,10 +5,11 @@ use mathlib.Core.List.{List, [], _∷_, _++_}
 use Prim.Native.Nat.{ℕ, zero, suc, _+_, _≤_, zero-le}
 use native.Mathlib.Omega.{arith}
 use lib.Dec.{ltb}
-use lib.ListN.{length, take}
-use Rattle.cobs.specs.Words.{if_then_else_}
+use lib.ListN.{length, take, drop, take-append-drop}
+use lib.Seq.{take-append-le}
 use Rattle.dec.specs.State.{stepped}
-use Rattle.dec.specs.Stream.{at, new, bad, Outcome, goes, isMore, resultOutcome, byteOutcome, further, pieceOutcome, pushOutcome}
+use Rattle.dec.specs.Stream.{at, new, bad, Outcome, goes, isMore, resultOutcome, byteOutcome, further, pieceOutcome, used, pushOutcome}
+use Rattle.dec.specs.Sentences.{Pushes, none, push}
 use Rattle.dec.specs.declared.state.DecoderState.{DecoderState}
 use Rattle.dec.specs.declared.state.DecoderState.the-variants.{Idle, Grab, GrabChain}
 use Rattle.dec.specs.declared.state.DecodeResult.{DecodeResult}
@@ -22,10 +23,6 @@ use Rattle.dec.proofs.Pieces.{further-keeps, further-counts, further-ne
 unfoldable pub through : CobsDecoder → (room : ℕ) (bytes : List ℕ) → CobsDecoder
 through d room [] = d
 through d room (b ∷ s) = through (pushOutcome d room (b ∷ []) .next) room s
-
--- How many bytes of a piece of n bytes its push used.
-abbrev pub used : (n : ℕ) → Outcome → ℕ
-used n o = if isMore o then n else o .answer .second
 
 -- ---- one byte
 
@@ -46,7 +43,7 @@ result-counts place room s (DataContinue x) e = by-bool (ltb place room) (λ q. 
 result-counts place room s InvalidFrame e = refl
 
 -- a byte that stops the piece is counted
-byte-counts : (d : CobsDecoder) (room b : ℕ) → isMore (byteOutcome d room b) ≡ false → byteOutcome d room b .answer .second ≡ 1
+pub byte-counts : (d : CobsDecoder) (room b : ℕ) → isMore (byteOutcome d room b) ≡ false → byteOutcome d room b .answer .second ≡ 1
 unfolding byteOutcome
 byte-counts d room b e =
     by-bool (d .skip) (λ q. absurd (false≢true (sym (rw q at e))))
@@ -109,3 +106,33 @@ push-through (b ∷ p) d room g =
     rw (push-piece d room g (b ∷ p), used-goes d room b p e, piece-goes d room b p (byteOutcome d room b .next) (byte-goes d room b e), further-next 1 (pieceOutcome (byteOutcome d room b .next) room p), same)
     (push-through p d′ room g′))
     (λ e. rw (push-piece d room g (b ∷ p), used-stops d room b p e, piece-stops d room b p e) (sym (fed d room b g)))
+
+-- ---- bytes handed over however cut
+
+through-append : (s t : List ℕ) (d : CobsDecoder) (room : ℕ) → through d room (s ++ t) ≡ through (through d room s) room t
+unfolding through
+through-append [] t d room = refl
+through-append (b ∷ s) t d room = through-append s t (pushOutcome d room (b ∷ []) .next) room
+
+pub pushes-through : {room : ℕ} {d e : CobsDecoder} {s : List ℕ} → bad d room ≡ false → Pushes room d s e → e ≡ through d room s
+unfolding through
+pushes-through g none = refl
+pushes-through {room} {d} {e} {s} g (push piece later q w) =
+    let n : ℕ = used (length piece) (pushOutcome d room piece) in
+    let within : used (length piece) (pushOutcome d room piece) ≤ length piece = rw (push-piece d room g piece) (used-within piece d room) in
+    let front : take n piece ≡ take n s = sym (take-append-le n piece later within) ∙ ap (take n) q in
+    pushes-through (push-good d room piece g) w
+    ∙ ap (λ (x : CobsDecoder). through x room (drop n s)) (push-through piece d room g ∙ ap (through d room) front)
+    ∙ sym (through-append (take n s) (drop n s) d room)
+    ∙ ap (through d room) (take-append-drop n s)
+
+-- one by one they all go in
+pub pushes-all : (s : List ℕ) (d : CobsDecoder) (room : ℕ) → bad d room ≡ false → Pushes room d s (through d room s)
+unfolding through pieceOutcome
+pushes-all [] d room g = none
+pushes-all (b ∷ s) d room g =
+    let next : CobsDecoder = pushOutcome d room (b ∷ []) .next in
+    let one : used 1 (pushOutcome d room (b ∷ [])) ≡ 1 =
+    rw (push-piece d room g (b ∷ []))
+    (by-bool (isMore (byteOutcome d room b)) (λ e. used-goes d room b [] e) (λ e. used-stops d room b [] e)) in
+    push {d = d} {e = through next room s} (b ∷ []) s refl (rw one (pushes-all s next room (push-good d room (b ∷ []) g)))

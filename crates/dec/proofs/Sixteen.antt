@@ -112,7 +112,7 @@ module _ (p : List ℕ) (i place c₀ left₀ : ℕ) (m : List ℕ) (hp : i + 16
         | no g ↦ flow-by (16 - k) k c l mem d (omega arith) (omega arith) (λ w. absurd (omega arith)) a s q qx
       ]
 
-  pub mid-first : (d : List ℕ) → d ≡ paste m place (drop i p) 16 → Mid p i place c₀ left₀ m c₀ left₀ d
+  mid-first : (d : List ℕ) → d ≡ paste m place (drop i p) 16 → Mid p i place c₀ left₀ m c₀ left₀ d
   mid-first d s =
       let e₁ : i ≡ i + 0 = omega arith in
       let e₂ : place ≡ place + 0 = omega arith in
@@ -121,7 +121,7 @@ module _ (p : List ℕ) (i place c₀ left₀ : ℕ) (m : List ℕ) (hp : i + 16
       (s ∙ ap (λ (x : ℕ). paste m x (drop i p) 16) e₂ ∙ ap (λ (x : ℕ). paste m (place + 0) (drop x p) 16) e₁) left₀ (omega arith)
 
   module _ (c q : ℕ) (d : List ℕ) (w : Mid p i place c₀ left₀ m c q d) where
-    pub mid-code : q < 16 → (c ≡ 255 → ⊥) → (b : ℕ) → b ≡ getD p (i + q) 0 → (d′ : List ℕ) → d′ ≡ set d (place + q) 0
+    mid-code : q < 16 → (c ≡ 255 → ⊥) → (b : ℕ) → b ≡ getD p (i + q) 0 → (d′ : List ℕ) → d′ ≡ set d (place + q) 0
         → Mid p i place c₀ left₀ m b (q + b) d′
     mid-code h nc b eb d′ qd =
         let nz : getD p (i + q) 0 ≡ 0 → ⊥ = clear q h in
@@ -142,7 +142,7 @@ module _ (p : List ℕ) (i place c₀ left₀ : ℕ) (m : List ℕ) (hp : i + 16
         ∙ ap (λ (x : List ℕ). paste (set (w .mem) (place + q) 0) (place + (q + 1)) x (16 - (q + 1))) (drop-drop 1 (i + q) p ∙ ap (λ (x : ℕ). drop x p) e₁))
         (q + getD p (i + q) 0) (omega (arith, nz)))
 
-    pub mid-last : 16 ≤ q → Ahead (length m) p i (inside c₀ left₀ place) m (i + 16) (inside c (q - 16) (place + 16)) d
+    mid-last : 16 ≤ q → Ahead (length m) p i (inside c₀ left₀ place) m (i + 16) (inside c (q - 16) (place + 16)) d
     mid-last h =
         let ek : w .k ≡ 16 = elim (decLt (w .k) 16) [ yes g ↦ absurd (omega (arith, w .exact g)) | no g ↦ omega (arith, w .small) ] in
         let e₀ : 0 ≡ 16 - w .k = omega arith in

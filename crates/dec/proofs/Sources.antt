@@ -47,7 +47,7 @@ closed (suc b ∷ s) =
     (w .0, ap (λ (l : List ℕ). suc b ∷ l) (w .1), omega (arith, w .2))
 
 -- nothing, or a body
-some-body : (src : List ℕ) → (skipped src ≡ []) ⊎ (0 < length (body (skipped src)))
+pub some-body : (src : List ℕ) → (skipped src ≡ []) ⊎ (0 < length (body (skipped src)))
 some-body [] = inl refl
 some-body (zero ∷ src) = some-body src
 some-body (suc b ∷ src) = inr (suc-le-suc zero-le)
@@ -58,7 +58,7 @@ length-skipped (zero ∷ src) = omega (arith, length-skipped src)
 length-skipped (suc b ∷ src) = omega arith
 
 module _ (src : List ℕ) where
-  run-none : skipped src ≡ [] → run Idle (src ++ 0 ∷ []) ≡ record { end = going; out = []; took = leading src + 1; state = Idle }
+  pub run-none : skipped src ≡ [] → run Idle (src ++ 0 ∷ []) ≡ record { end = going; out = []; took = leading src + 1; state = Idle }
   unfolding run
   run-none e = run-skipped src (0 ∷ []) ∙ rw e
 
@@ -66,7 +66,11 @@ module _ (src : List ℕ) where
   unfolding meant
   meant-none e = rw e read-empty
 
-  run-some : 0 < length (body (skipped src))
+  pub decoded-none : skipped src ≡ [] → decoded src ≡ []
+  unfolding decoded
+  decoded-none e = rw (meant-none e)
+
+  pub run-some : 0 < length (body (skipped src))
       → run Idle (src ++ 0 ∷ [])
       ≡ record { end = if meant src .whole then whole else early; out = decoded src; took = leading src + suc (length (body (skipped src))); state = Idle }
   unfolding meant decoded

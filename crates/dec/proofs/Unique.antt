@@ -9,7 +9,7 @@ use Rattle.cobs.specs.Words.{if_then_else_}
 use Rattle.cobs.specs.Answers.{Told, isDone}
 use Rattle.cobs.specs.OneShot.{decodeTold, decodeDest}
 use Rattle.cobs.proofs.Told.{one-result}
-use Rattle.dec.specs.State.{stepped}
+use Rattle.dec.specs.State.{stepped, Feeds}
 use Rattle.dec.specs.Stream.{new, Outcome, told, outcome, pushOutcome, pushDest}
 use Rattle.dec.specs.Calls.{decodedTold}
 use Rattle.dec.specs.declared.state.DecoderState.{DecoderState}
@@ -71,9 +71,8 @@ pub unique-step : (d : DecoderState) (b : ℕ) (r s : Stepped) → r ≡ stepped
 unique-step d b r s p q = p ∙ sym q
 
 -- a result, and the state behind the reference after it
-pub unique-DecoderState-feed : (d : DecoderState) (b : ℕ) (r s : DecodeResult) (k l : DecoderState) → (r ≡ stepped d b .result) × (k ≡ stepped d b .state)
-    → (s ≡ stepped d b .result) × (l ≡ stepped d b .state) → (r ≡ s) × (k ≡ l)
-unique-DecoderState-feed d b r s k l p q = (p .0 ∙ sym (q .0), p .1 ∙ sym (q .1))
+pub unique-DecoderState-feed : (d : DecoderState) (b : ℕ) (r s : DecodeResult) (k l : DecoderState) → Feeds d b r k → Feeds d b s l → (r ≡ s) × (k ≡ l)
+unique-DecoderState-feed d b r s k l p q = (p .result ∙ sym (q .result), p .state ∙ sym (q .state))
 
 pub unique-fed : (d : DecoderState) (b : ℕ) (r s : Stepped) → r ≡ stepped d b → s ≡ stepped d b → r ≡ s
 unique-fed = unique-step

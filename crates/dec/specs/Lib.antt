@@ -2,5 +2,7 @@
 pub mod State
 pub mod Stream
 pub mod Calls
+pub mod Sentences
+pub mod RoundTrips
 -- for the private functions
 pub mod Helpers

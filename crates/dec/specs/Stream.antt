@@ -116,6 +116,10 @@ pieceDest d room [] dest = dest
 pieceDest d room (b ∷ piece) dest =
     if isMore (byteOutcome d room b) then pieceDest (byteOutcome d room b .next) room piece (byteDest d b dest) else byteDest d b dest
 
+-- How many bytes of a piece of n bytes its push used.
+abbrev pub used : (n : ℕ) → Outcome → ℕ
+used n o = if isMore o then n else o .answer .second
+
 -- BadState first: nothing consumed, the state as it went in, the destination untouched.
 unfoldable pub pushOutcome : CobsDecoder → (room : ℕ) (piece : List ℕ) → Outcome
 pushOutcome d room piece = if bad d room then stops d badState else pieceOutcome d room piece

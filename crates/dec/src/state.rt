@@ -1,7 +1,7 @@
 //! The decoder's state, and one byte fed to it.
 ghost use mathlib.Core.Path.{_≡_};
 ghost use Prim.Native.Nat.{_<_};
-ghost use Rattle.dec.specs.State.{gives, opened, atZero, stepped};
+ghost use Rattle.dec.specs.State.{gives, opened, atZero, stepped, toldGiven, givenTold, Feeds};
 
 /// No byte of a body yet; so many bytes of a group to come; the same in a group whose code is FF.
 pub enum DecoderState {
@@ -48,7 +48,8 @@ impl DecoderState {
 
     /// Takes one byte.
     pub fn step(self, byte: u8) -> Stepped
-        ensures { λ r. ⌜ r ≡ stepped self byte ⌝ }
+        ensures step { λ r. ⌜ r ≡ stepped self byte ⌝ }
+        ensures answer { λ r. ⌜ toldGiven (r .result) ≡ givenTold self byte ⌝ }
     {
         match self {
             DecoderState::Idle => match byte {
@@ -81,8 +82,7 @@ impl DecoderState {
 
     /// Takes one byte where the state stands: `step`, and the next state written back.
     pub fn feed(&mut self, data: u8) -> DecodeResult
-        ensures { λ r. ⌜ (r ≡ stepped (now (self .entry)) «data» .result)
-            × (now (self .exit) ≡ stepped (now (self .entry)) «data» .state) ⌝ }
+        ensures { λ r. ⌜ Feeds (now (self .entry)) «data» r (now (self .exit)) ⌝ }
     {
         let state = *self;
         let next = state.step(data);
@@ -93,7 +93,7 @@ impl DecoderState {
 
 /// `feed` on a copy of the state, for a caller that holds no reference.
 pub fn fed(state: DecoderState, data: u8) -> Stepped
-    ensures { λ r. ⌜ r ≡ stepped state «data» ⌝ }
+    ensures { λ r. ⌜ (r ≡ stepped state «data») × (toldGiven (r .result) ≡ givenTold state «data») ⌝ }
 {
     let mut held = state;
     let result = held.feed(data);

@@ -8,10 +8,10 @@ use Rattle.cobs.specs.Code.{masked}
 use Rattle.cobs.specs.Answers.{tell}
 use Rattle.cobs.specs.OneShot.{inPlaceTold, inPlaceDest, sizeAlone}
 use Rattle.enc.specs.Stream.{pushTold, pushDest, finishTold, finishDest}
-use Rattle.dec.specs.State.{stepped}
+use Rattle.dec.specs.State.{stepped, givenTold}
 use Rattle.dec.specs.Stream.{pushDest as decodeDest}
 use Rattle.cobs.proofs.Told.{Same, same}
-use Rattle.probe.specs.Numbers.{encoderOf, decoderOf, stateFrom, tag, toCome, gaveTold, startTold, startNumbers, pushNumbers, decoded, decodeNumbers}
+use Rattle.probe.specs.Numbers.{encoderOf, decoderOf, stateFrom, tag, toCome, startTold, startNumbers, pushNumbers, decoded, decodeNumbers}
 
 pub unique-probe-encoder-start : (numbers dest : List ℕ) (r s : ℕ) (x y : List ℕ)
     → tell r 0 0 ≡ startTold numbers (length dest) → tell s 0 0 ≡ startTold numbers (length dest)
@@ -35,12 +35,12 @@ pub unique-probe-decoder-push : (numbers piece dest : List ℕ) (r s a b c d : �
     → x ≡ decodeDest (decoderOf numbers) piece dest → y ≡ decodeDest (decoderOf numbers) piece dest → Same r s a b c d × (k ≡ l) × (x ≡ y)
 unique-probe-decoder-push numbers piece dest r s a b c d k l x y p q e f u v = (same p q, e ∙ sym f, u ∙ sym v)
 
-pub unique-probe-decoder-step : (state left byte : ℕ) (r s a b k l x y : ℕ)
-    → tell r a 0 ≡ gaveTold (stepped (stateFrom state left) byte .result) → tell s b 0 ≡ gaveTold (stepped (stateFrom state left) byte .result)
+pub unique-probe-decoder-step : (state left byte : ℕ) (r s a b c d k l x y : ℕ)
+    → tell r a c ≡ givenTold (stateFrom state left) byte → tell s b d ≡ givenTold (stateFrom state left) byte
     → k ≡ tag (stepped (stateFrom state left) byte .state) → l ≡ tag (stepped (stateFrom state left) byte .state)
     → x ≡ toCome (stepped (stateFrom state left) byte .state) → y ≡ toCome (stepped (stateFrom state left) byte .state)
-    → Same r s a b 0 0 × (k ≡ l) × (x ≡ y)
-unique-probe-decoder-step state left byte r s a b k l x y p q e f u v = (same p q, e ∙ sym f, u ∙ sym v)
+    → Same r s a b c d × (k ≡ l) × (x ≡ y)
+unique-probe-decoder-step state left byte r s a b c d k l x y p q e f u v = (same p q, e ∙ sym f, u ∙ sym v)
 
 pub unique-probe-decode-in-place-with-sentinel : (buf : List ℕ) (sentinel : ℕ) (r s a b : ℕ) (x y : List ℕ)
     → tell r a 0 ≡ sizeAlone (inPlaceTold (masked sentinel buf)) → tell s b 0 ≡ sizeAlone (inPlaceTold (masked sentinel buf))

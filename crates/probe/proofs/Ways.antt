@@ -13,13 +13,13 @@ use Rattle.enc.specs.Stream.{fresh, started, pushTold, pushNext, pushDest}
 use Rattle.enc.specs.declared.stream.Encoder.{Encoder}
 use Rattle.enc.specs.declared.stream.Started.{Started}
 use Rattle.enc.specs.declared.stream.Started.the-variants as start
-use Rattle.dec.specs.State.{stepped}
+use Rattle.dec.specs.State.{stepped, toldGiven, givenTold}
 use Rattle.dec.specs.declared.state.DecoderState.{DecoderState}
 use Rattle.dec.specs.declared.state.Stepped.{Stepped}
 use Rattle.dec.specs.declared.stream.CobsDecoder.{CobsDecoder}
 use Rattle.dec.specs.declared.stream.Pushed.{Pushed}
 use Rattle.dec.specs.Stream.{Outcome, told, outcome, pushOutcome, pushDest as decodeDest}
-use Rattle.probe.specs.Numbers.{flag, stateFrom, tag, toCome, gaveTold, encoderOf, encoderNumbers, decoderOf, decoderNumbers, startTold, startNumbers, pushNumbers, decoded, decodeNumbers}
+use Rattle.probe.specs.Numbers.{flag, stateFrom, tag, toCome, encoderOf, encoderNumbers, decoderOf, decoderNumbers, startTold, startNumbers, pushNumbers, decoded, decodeNumbers}
 
 -- ---- a state's numbers
 
@@ -103,10 +103,11 @@ module _ (numbers piece d d′ : List ℕ) (e : CobsDecoder) (p : e ≡ decoderO
 
 -- ---- one byte to the decoder's state
 
-pub step-told : (tag₀ left₀ byte n g tag₁ left₁ : ℕ) (s : DecoderState) (r : Stepped) → s ≡ stateFrom tag₀ left₀ → r ≡ stepped s byte
-    → tell n g 0 ≡ gaveTold (r .result) → tag₁ ≡ tag (r .state) → left₁ ≡ toCome (r .state)
-    → (tell n g 0 ≡ gaveTold (stepped (stateFrom tag₀ left₀) byte .result))
+pub step-told : (tag₀ left₀ byte n g p tag₁ left₁ : ℕ) (s : DecoderState) (r : Stepped) → s ≡ stateFrom tag₀ left₀
+    → (r ≡ stepped s byte) × (toldGiven (r .result) ≡ givenTold s byte)
+    → tell n g p ≡ toldGiven (r .result) → tag₁ ≡ tag (r .state) → left₁ ≡ toCome (r .state)
+    → (tell n g p ≡ givenTold (stateFrom tag₀ left₀) byte)
     × ((tag₁ ≡ tag (stepped (stateFrom tag₀ left₀) byte .state)) × (left₁ ≡ toCome (stepped (stateFrom tag₀ left₀) byte .state)))
-step-told tag₀ left₀ byte n g tag₁ left₁ s r p q t u v =
-    let e = q ∙ ap (λ (x : DecoderState). stepped x byte) p in
-    (t ∙ ap (λ (x : Stepped). gaveTold (x .result)) e, (u ∙ ap (λ (x : Stepped). tag (x .state)) e, v ∙ ap (λ (x : Stepped). toCome (x .state)) e))
+step-told tag₀ left₀ byte n g p tag₁ left₁ s r is q t u v =
+    let e = q .0 ∙ ap (λ (x : DecoderState). stepped x byte) is in
+    (t ∙ q .1 ∙ ap (λ (x : DecoderState). givenTold x byte) is, (u ∙ ap (λ (x : Stepped). tag (x .state)) e, v ∙ ap (λ (x : Stepped). toCome (x .state)) e))

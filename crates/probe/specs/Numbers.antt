@@ -6,14 +6,12 @@ use lib.Dec.{eqb}
 use lib.ListN.{length}
 use Rattle.cobs.specs.Words.{if_then_else_, _exceeds_}
 use Rattle.cobs.specs.Code.{over}
-use Rattle.cobs.specs.Answers.{Told, tell, done, destBufTooSmall, badState, ifDone}
+use Rattle.cobs.specs.Answers.{Told, done, destBufTooSmall, badState, ifDone}
 use Rattle.enc.specs.State.{opened}
 use Rattle.enc.specs.Stream.{fresh, pushTold, pushNext}
 use Rattle.enc.specs.declared.stream.Encoder.{Encoder}
 use Rattle.dec.specs.declared.state.DecoderState.{DecoderState}
 use Rattle.dec.specs.declared.state.DecoderState.the-variants.{Idle, Grab, GrabChain}
-use Rattle.dec.specs.declared.state.DecodeResult.{DecodeResult}
-use Rattle.dec.specs.declared.state.DecodeResult.the-variants as result
 use Rattle.dec.specs.declared.stream.CobsDecoder.{CobsDecoder}
 use Rattle.dec.specs.Stream.{Outcome, pushOutcome}
 
@@ -86,14 +84,6 @@ toCome (GrabChain left) = left
 -- A decoder's numbers.
 abbrev pub decoderNumbers : CobsDecoder → List ℕ
 decoderNumbers d = d .place ∷ flag (d .skip) ∷ tag (d .state) ∷ toCome (d .state) ∷ []
-
--- What one byte gives, told: the cases in the order of their declaration, with the byte that goes on.
-abbrev pub gaveTold : DecodeResult → Told
-gaveTold result.NoData = tell 0 0 0
-gaveTold result.DataStart = tell 1 0 0
-gaveTold result.DataComplete = tell 2 0 0
-gaveTold (result.DataContinue b) = tell 3 b 0
-gaveTold result.InvalidFrame = tell 4 0 0
 
 -- ---- the array after a call
 

@@ -22,9 +22,9 @@ ghost use Rattle.cobs.specs.Code.{masked};
 ghost use Rattle.cobs.specs.Answers.{tell};
 ghost use Rattle.cobs.specs.OneShot.{inPlaceTold, inPlaceDest, sizeAlone};
 ghost use Rattle.enc.specs.Stream.{pushTold, pushDest, finishTold, finishDest};
-ghost use Rattle.dec.specs.State.{stepped};
+ghost use Rattle.dec.specs.State.{stepped, givenTold};
 ghost use Rattle.dec.specs.Stream.{pushDest as decodeDest};
-ghost use Rattle.probe.specs.Numbers.{encoderOf, decoderOf, stateFrom, tag, toCome, gaveTold, startTold, startNumbers, pushNumbers, decoded, decodeNumbers};
+ghost use Rattle.probe.specs.Numbers.{encoderOf, decoderOf, stateFrom, tag, toCome, startTold, startNumbers, pushNumbers, decoded, decodeNumbers};
 
 /// An encoder for this buffer, in the array.
 #[no_mangle]
@@ -96,10 +96,16 @@ pub extern "C" fn probe_decoder_push(
     number
 }
 
-/// One byte to the decoder's state alone; the state as its number and the bytes left.
+/// One byte to the decoder's state alone; the state as its number and the bytes left. `place` is where in the frame the byte stands.
 #[no_mangle]
-pub extern "C" fn probe_decoder_step(state: &mut u64, left: &mut u8, byte: u8, given: &mut u8) -> u8
-    ensures answer { λ r. ⌜ tell r (now (given .exit)) 0 ≡ gaveTold (stepped (stateFrom (now (state .entry)) (now (left .entry))) byte .result) ⌝ }
+pub extern "C" fn probe_decoder_step(
+    state: &mut u64,
+    left: &mut u8,
+    byte: u8,
+    given: &mut u8,
+    place: &mut u8,
+) -> u8
+    ensures answer { λ r. ⌜ tell r (now (given .exit)) (now (place .exit)) ≡ givenTold (stateFrom (now (state .entry)) (now (left .entry))) byte ⌝ }
     ensures next { λ _. ⌜ now (state .exit) ≡ tag (stepped (stateFrom (now (state .entry)) (now (left .entry))) byte .state) ⌝ }
     ensures rest { λ _. ⌜ now (left .exit) ≡ toCome (stepped (stateFrom (now (state .entry)) (now (left .entry))) byte .state) ⌝ }
 {
@@ -109,7 +115,7 @@ pub extern "C" fn probe_decoder_step(state: &mut u64, left: &mut u8, byte: u8, g
     let result = stepped.result;
     *state = tag(after);
     *left = to_come(after);
-    gave(result, given)
+    gave(result, given, place)
 }
 
 /// The buffer XORed with the sentinel, then decoded in place.

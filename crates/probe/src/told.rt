@@ -7,9 +7,9 @@ use place::place::InPlace;
 ghost use mathlib.Core.Path.{_≡_};
 ghost use Rattle.cobs.specs.Answers.{tell};
 ghost use Rattle.enc.specs.Stream.{told as acceptedTold, toldFinished};
+ghost use Rattle.dec.specs.State.{toldGiven};
 ghost use Rattle.dec.specs.Stream.{told as pushTold};
 ghost use Rattle.place.specs.Calls.{placeTold};
-ghost use Rattle.probe.specs.Numbers.{gaveTold};
 
 pub(crate) fn accepted(found: Accepted) -> u8
     ensures { λ r. ⌜ tell r 0 0 ≡ acceptedTold found ⌝ }
@@ -65,19 +65,27 @@ pub(crate) fn answered(found: PushAnswer, size: &mut usize, consumed: &mut usize
     }
 }
 
-pub(crate) fn gave(found: DecodeResult, given: &mut u8) -> u8
-    ensures { λ r. ⌜ tell r (now (given .exit)) 0 ≡ gaveTold found ⌝ }
+pub(crate) fn gave(found: DecodeResult, given: &mut u8, place: &mut u8) -> u8
+    ensures { λ r. ⌜ tell r (now (given .exit)) (now (place .exit)) ≡ toldGiven found ⌝ }
 {
     *given = 0;
+    *place = 0;
     match found {
         DecodeResult::NoData => 0,
-        DecodeResult::DataStart => 1,
-        DecodeResult::DataComplete => 2,
+        DecodeResult::DataStart => {
+            *place = 1;
+            0
+        }
+        DecodeResult::DataComplete => {
+            *place = 2;
+            0
+        }
         DecodeResult::DataContinue(b) => {
             *given = b;
-            3
+            *place = 3;
+            0
         }
-        DecodeResult::InvalidFrame => 4,
+        DecodeResult::InvalidFrame => 2,
     }
 }
 

@@ -21,10 +21,12 @@ gave-requires c κs = search needs
 
 returns : tie.Need-returns
 returns c =
-    let a = c .before .before .before .before .before .before .before .before .args in
-    let step = c .before .before .before .before .step in
-    step-told (a .state .now) (a .left .now) (a .byte) _ _ _ _ _ (step .result) (c .before .before .before .before .before .state-from .ensures) (step .ensures)
-    (c .gave .ensures) (c .before .before .before .tag .ensures) (c .before .before .to-come .ensures)
+    let tags = c .before .before .before .before in
+    let steps = tags .before in
+    let from = steps .before in
+    let a = from .before .before .before .args in
+    step-told (a .state .now) (a .left .now) (a .byte) _ _ _ _ _ _ (steps .step .result) (from .state-from .ensures) (steps .step .ensures)
+    (c .gave .ensures) (tags .tag .ensures) (c .before .before .before .to-come .ensures)
 
 pub probe-decoder-step-spec : {M : Type 1} → statement M
 probe-decoder-step-spec =

@@ -40,10 +40,11 @@ use denote.Triple.Entry.{onEntry}
 use denote.Triple.Spec.{Meets, tripleOf}
 use denote.Triple.Table.{entered, cited}
 use denote.Triple.Walked.{says, Stays, stay-none, walkOf, goes-none, Walks, ends-at, walked, walk-meets}
-use Rattle.dec.specs.State.{stepped}
+use Rattle.dec.specs.State.{stepped, Feeds}
 use Rattle.dec.specs.declared.state.DecoderState.{DecoderState}
 use Rattle.dec.specs.declared.state.DecodeResult.{DecodeResult}
 use Rattle.dec.specs.declared.state.Stepped.{Stepped}
+use Rattle.dec.proofs.Steps.{is-told}
 use Rattle.dec.proofs.state.DecoderState as state
 use Rattle.dec.proofs.state.DecoderState.Laws as state′
 use Rattle.dec.proofs.state.DecodeResult as result
@@ -117,12 +118,12 @@ module _ {M : Type 1} (𝓤 : URA M) (H : Heap 𝓤) (A : Atoms 𝓤) (W : Given
         nothing ! $ move ! (2 ∷ 0 ∷ []) $ join ! $ join ! $ frame ! $ done !
 
     abbrev Said : DecodeResult → DecoderState → Type 0
-    Said r s = (r ≡ stepped d n .result) × (s ≡ stepped d n .state)
+    Said r s = Feeds d n r s
 
     exits : Is pair.the-row next (answer ∷ []) → ent 𝓤 (emp 𝓤) (Post answer)
     exits is =
         qed W [] ∵ suffices ! _ (ends-at 𝓤 H A fed.ended left (fed.clauses 𝓤 H A memory run) W ((tt, tt, tt, (d, (n, tt)), values), tt) answer next
-        (tt, (tt, tt)) (tt, (tt, tt))) $ says ! (sym is-next) $
+        (tt, (tt, tt)) (tt, (tt, tt))) $ says ! (sym is-next, is-told d n next (sym is-next)) $
         owned ! pair.the-row (Is pair.the-row) (struct.makes pair.the-type pair′.the-plain 𝓤 H A) next _ is $ nothing ! $
         owned ! u8 (Is u8) (uint-makes 𝓤 H A W w8) n _ (refl, fits) $ fjoin ! $
         owned ! state.the-row (Is state.the-row) (enum.makes state.the-type state′.the-plain 𝓤 H A) d _ d-is $ fjoin ! $ nothing ! $ done !
@@ -153,10 +154,10 @@ module _ {M : Type 1} (𝓤 : URA M) (H : Heap 𝓤) (A : Atoms 𝓤) (W : Given
           use1 W (some (λ (ws : DecoderState × (Unit {0} × Unit {0})). ‵ (lasts feed.ended (ν ∷ [], tt) (lent l₃ γ, (n, tt)) ws) ⊛
           raw (fact 𝓤 (Said r (ws .0))))) (id⊢ 𝓤 _) $ pick ! (λ ws.
           split ! $ move ! (1 ∷ []) $ heard ! (Said r (ws .0)) (λ e. fsplit ! $
-          rewrite ! 0 (λ (s : DecoderState). ‵ (fres γ (state.the-row .coded .code s))) (e .1 ∙ λ i. is-next i .state) refl $
+          rewrite ! 0 (λ (s : DecoderState). ‵ (fres γ (state.the-row .coded .code s))) (e .state ∙ λ i. is-next i .state) refl $
           -- the result lands in _4
           move ! (2 ∷ []) $ split ! $ move ! (1 ∷ []) $
-          rewrite ! 0 (λ (z : DecodeResult). ‵ (result.the-row .own z (u ∷ []))) (e .0 ∙ λ i. is-next i .result) refl $
+          rewrite ! 0 (λ (z : DecodeResult). ‵ (result.the-row .own z (u ∷ []))) (e .result ∙ λ i. is-next i .result) refl $
           peeks ! result.the-row (Is result.the-row) (shows 𝓤 H A result.the-row) (next .result) (u ∷ []) (λ is.
           land ! (from ! (stop !)) (init ! 9 refl (enum.lawful result.the-type result′.the-laws 𝓤 H A W tt .typed (next .result) _ is .0)) $
           rewrite ! 9 (λ (z : Val). ‵ (fat fullShare result′.mir l₄ 0 z))

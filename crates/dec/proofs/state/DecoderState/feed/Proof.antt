@@ -40,10 +40,11 @@ use denote.Triple.Entry.{onEntry}
 use denote.Triple.Spec.{Meets, tripleOf}
 use denote.Triple.Table.{entered, cited}
 use denote.Triple.Walked.{says, Stays, stay-ref, stay-none, walkOf, goes-none, goes-ref, Walks, ends-at, walked, walk-meets}
-use Rattle.dec.specs.State.{stepped}
+use Rattle.dec.specs.State.{stepped, toldGiven, givenTold}
 use Rattle.dec.specs.declared.state.DecoderState.{DecoderState}
 use Rattle.dec.specs.declared.state.DecodeResult.{DecodeResult}
 use Rattle.dec.specs.declared.state.Stepped.{Stepped}
+use Rattle.dec.proofs.Steps.{is-told}
 use Rattle.dec.proofs.state.DecoderState as state
 use Rattle.dec.proofs.state.DecoderState.Laws as state′
 use Rattle.dec.proofs.state.DecodeResult as result
@@ -94,8 +95,16 @@ module _ {M : Type 1} (𝓤 : URA M) (H : Heap 𝓤) (A : Atoms 𝓤) (W : Given
         qed W (‵ (state.the-row .own d (state-at d ∷ [])) ∷ []) ∵ nothing ! $ owned ! u8 (Is u8) (uint-makes 𝓤 H A W w8) n _ (refl, fits) $ fjoin ! $
         move ! (1 ∷ 0 ∷ []) $ fjoin ! $ nothing ! $ join ! $ frame ! $ done !
 
+    abbrev Tells : Stepped → Type 0
+    Tells r = toldGiven (r .result) ≡ givenTold d n
+
     told : (r : Stepped) → ent 𝓤 (ensured 𝓤 H A step.ended (step.clauses 𝓤 H A memory run) tt (d, (n, tt)) tt r) (fact 𝓤 (r ≡ stepped d n))
-    told r = exE 𝓤 _ (λ ws. snd∗ 𝓤 (sem 𝓤 H A (lasts step.ended tt (d, (n, tt)) ws)) (fact 𝓤 (r ≡ stepped d n)))
+    told r =
+        exE 𝓤 _ (λ ws. via 𝓤 _ (snd∗ 𝓤 (sem 𝓤 H A (lasts step.ended tt (d, (n, tt)) ws)) (sep 𝓤 (fact 𝓤 (r ≡ stepped d n)) (fact 𝓤 (Tells r))))
+        (fst∗ 𝓤 (fact 𝓤 (r ≡ stepped d n)) (fact 𝓤 (Tells r))))
+
+    tells : Tells next
+    tells = is-told d n next (sym is-next)
 
     -- The borrow shut on the next state, and the result, are what the contract asks for.
     exits : Is result.the-row (next .result) (result-at (next .result) ∷ [])
@@ -105,7 +114,7 @@ module _ {M : Type 1} (𝓤 : URA M) (H : Heap 𝓤) (A : Atoms 𝓤) (W : Given
         qed W (‵ (fobs γ (state.the-row .coded .code (next .state))) ∷ ‵ (fbor κ (Body (mem state.the-row) b o γ)) ∷ ‵ (flft κ q) ∷ []) ∵
         suffices ! _ (ends-at 𝓤 H A feed.ended left (feed.clauses 𝓤 H A memory run) W (((κ, tt), (q, tt), tt, args, values), tt)
         (result-at (next .result)) (next .result) (next .state, (tt, tt)) (tt, (tt, tt))) $
-        says ! (λ i. sym is-next i .result, λ i. sym is-next i .state) $ nothing ! $ move ! (3 ∷ 0 ∷ []) $ join ! $ frame ! $
+        says ! (record { result = λ i. sym is-next i .result; state = λ i. sym is-next i .state; told = tells }) $ nothing ! $ move ! (3 ∷ 0 ∷ []) $ join ! $ frame ! $
         feqI ! (List Val) (vptr b o ∷ []) (vptr b o ∷ []) refl $ fjoin3 ! $
         nothing ! $ owned ! u8 (Is u8) (uint-makes 𝓤 H A W w8) n _ (refl, fits) $ fjoin ! $ move ! (1 ∷ 0 ∷ []) $ fjoin ! $
         owned ! result.the-row (Is result.the-row) (enum.makes result.the-type result′.the-plain 𝓤 H A) (next .result) _ is $ move ! (1 ∷ 0 ∷ []) $

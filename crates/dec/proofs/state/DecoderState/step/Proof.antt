@@ -1,6 +1,5 @@
--- `dec::state::DecoderState::step` meets its contract: a law for each way through it. Assumes nothing.
-use mathlib.Core.Path.{_∙_}
-use Rattle.dec.proofs.Steps.{zero-idle, zero-grab, zero-chain, code-idle, code-grab, code-chain, byte-grab, byte-chain}
+-- `dec::state::DecoderState::step` meets its contract: a law for each way through it, and the telling from it. Assumes nothing.
+use Rattle.dec.proofs.Steps.{zero-idle, zero-grab, zero-chain, code-idle, code-grab, code-chain, byte-grab, byte-chain, is-told}
 use borrow.Author.Needs.{needs}
 use Rattle.dec.proofs.state.DecoderState.step.Statement.{statement}
 use Rattle.dec.proofs.state.DecoderState.step.Tie as tie
@@ -33,7 +32,7 @@ gives-requires-4 : tie.Need-gives-requires-4
 gives-requires-4 c κs = search needs
 
 returns : tie.Need-returns
-returns c = c .gives4 .ensures ∙ search (code-grab)
+returns c = search (code-grab, is-told)
 
 sub-t20 : tie.Need-sub-t20
 sub-t20 c = search needs
@@ -57,7 +56,7 @@ gives-requires-7 : tie.Need-gives-requires-7
 gives-requires-7 c κs = search needs
 
 returns-2 : tie.Need-returns-2
-returns-2 c = c .gives7 .ensures ∙ search (code-chain)
+returns-2 c = search (code-chain, is-told)
 
 sub-t29 : tie.Need-sub-t29
 sub-t29 c = search needs
@@ -66,22 +65,22 @@ gives-requires-8 : tie.Need-gives-requires-8
 gives-requires-8 c κs = search needs
 
 returns-3 : tie.Need-returns-3
-returns-3 c = c .gives .ensures ∙ search (zero-idle)
+returns-3 c = search (zero-idle, is-told)
 
 returns-4 : tie.Need-returns-4
-returns-4 c = c .gives2 .ensures ∙ search (code-idle)
+returns-4 c = search (code-idle, is-told)
 
 returns-5 : tie.Need-returns-5
-returns-5 c = c .gives3 .ensures ∙ search (zero-grab)
+returns-5 c = search (zero-grab, is-told)
 
 returns-6 : tie.Need-returns-6
-returns-6 c = c .gives5 .ensures ∙ search (byte-grab)
+returns-6 c = search (byte-grab, is-told)
 
 returns-7 : tie.Need-returns-7
-returns-7 c = c .gives6 .ensures ∙ search (zero-chain)
+returns-7 c = search (zero-chain, is-told)
 
 returns-8 : tie.Need-returns-8
-returns-8 c = c .gives8 .ensures ∙ search (byte-chain)
+returns-8 c = search (byte-chain, is-told)
 
 pub step-spec : {M : Type 1} → statement M
 step-spec =

@@ -40,7 +40,7 @@ skipping-requires c κs = search needs
 returns-2 : tie.Need-returns-2
 returns-2 c =
     let t = c .before .before .before .before .before in
-    taken-small _ _ _ _ (t .before .if1 .left) (t .step .result) (t .step .ensures) (t .before .before .before .pre) _ (c .before .before .before .result .given .1) (c .before .if2 .taken) _ (c .skipping .ensures)
+    taken-small _ _ _ _ (t .before .if1 .left) (t .step .result) (t .step .ensures .0) (t .before .before .before .pre) _ (c .before .before .before .result .given .1) (c .before .if2 .taken) _ (c .skipping .ensures)
 
 slice-write-dest : tie.Need-slice-write-dest
 slice-write-dest c = search needs
@@ -60,17 +60,17 @@ ended-requires-2 c κs = search needs
 returns-3 : tie.Need-returns-3
 returns-3 c =
     let t = c .before .before .before in
-    taken-none _ _ _ _ (t .before .if1 .left) (t .step .result) (t .step .ensures) (c .before .enum-told .given .1) _ (c .going .ensures)
+    taken-none _ _ _ _ (t .before .if1 .left) (t .step .result) (t .step .ensures .0) (c .before .enum-told .given .1) _ (c .going .ensures)
 
 returns-4 : tie.Need-returns-4
 returns-4 c =
     let t = c .before .before .before in
-    taken-start _ _ _ _ (t .before .if1 .left) (t .step .result) (t .step .ensures) (c .before .enum-told2 .given .1) _ (c .going2 .ensures)
+    taken-start _ _ _ _ (t .before .if1 .left) (t .step .result) (t .step .ensures .0) (c .before .enum-told2 .given .1) _ (c .going2 .ensures)
 
 returns-5 : tie.Need-returns-5
 returns-5 c =
     let t = c .before .before .before in
-    taken-frame _ _ _ _ (t .before .if1 .left) (t .step .result) (t .step .ensures) (t .before .before .before .pre) (c .before .enum-told3 .given .1) _ (c .ended .ensures)
+    taken-frame _ _ _ _ (t .before .if1 .left) (t .step .result) (t .step .ensures .0) (t .before .before .before .pre) (c .before .enum-told3 .given .1) _ (c .ended .ensures)
 
 same-length : tie.Need-same-length
 same-length c = search needs
@@ -78,12 +78,12 @@ same-length c = search needs
 returns-6 : tie.Need-returns-6
 returns-6 c =
     let t = c .before .before .before .before .before in
-    taken-byte _ _ _ _ (t .before .if1 .left) (t .step .result) (t .step .ensures) _ (c .before .before .before .result .given .1) (c .before .if2 .left) _ (c .going3 .ensures)
+    taken-byte _ _ _ _ (t .before .if1 .left) (t .step .result) (t .step .ensures .0) _ (c .before .before .before .result .given .1) (c .before .if2 .left) _ (c .going3 .ensures)
 
 returns-7 : tie.Need-returns-7
 returns-7 c =
     let t = c .before .before .before in
-    taken-invalid _ _ _ _ (t .before .if1 .left) (t .step .result) (t .step .ensures) (t .before .before .before .pre) (c .before .enum-told4 .given .1) _ (c .ended2 .ensures)
+    taken-invalid _ _ _ _ (t .before .if1 .left) (t .step .result) (t .step .ensures .0) (t .before .before .before .pre) (c .before .enum-told4 .given .1) _ (c .ended2 .ensures)
 
 pub take-spec : {M : Type 1} → statement M
 take-spec =
