@@ -6,11 +6,10 @@ use Prim.Native.Nat.{ℕ, _*_, _≤_, _<_}
 use lib.ListN.{length}
 use Rattle.cobs.specs.Answers.{complete}
 use Rattle.cobs.specs.Code.{encode}
-use Rattle.dec.specs.Stream.{new}
-use Rattle.batch.specs.State.{opened}
 use Rattle.wire.specs.Again.{Run, joined}
 use Rattle.wire.specs.Loop.{Side, drive, framed}
 use Rattle.wire.specs.Receive.{End, Seen, accepting}
+use Rattle.wire.specs.Call.{start, calls}
 use Rattle.wire.specs.Batch.{Batch, count, particleAt, total, InRange, Item, message, messages, Frame, Frames, has, hasClose, arrivedCount, arrivedTotal, due, expectedAll}
 
 -- What a sender, a wire and a receiving side do.
@@ -55,13 +54,9 @@ pub record Premises (d : Delivery) : Type 0 where
   -- "that same table": its caller may write to its bytes, not change its length
   pub same : (k : ℕ) (t : List ℕ) → length (d .handed k t) ≡ length t
 
--- "The receiver is opened once only, on that batch number"; "its decoder starts fresh".
+-- "The receiver is opened once only, on that batch number"; "its decoder starts fresh": what `Wire::open` promises.
 abbrev pub started : Delivery → Side End
-started d = record {
-  decoder = new;
-  buffer = d .buffer;
-  state = record { receiver = opened (d .batch .number) (length (d .table)); table = d .table };
-}
+started d = calls (start (d .batch .number) (length (d .table))) (d .buffer) (d .table)
 
 -- "nobody else writes those bytes or either state": between calls only the table's bytes may change.
 abbrev pub hand : Delivery → (k : ℕ) → End → End
