@@ -58,14 +58,14 @@ module _ (d : Delivery) (p : Premises d) where
   frames-within : (fs : List (List Item)) → Frames (d .batch) fs → Within accepting Fine fit keeps answers (length (d .buffer)) (messages (d .batch) fs)
   frames-within [] h = tt
   frames-within (f ∷ fs) h =
-      (omega (arith, message-long (d .batch) (p .numbered) (p .few) (p .ranges) f (h .0 .ours), h .0 .most, p .room), frames-within fs (h .1))
+      (omega (arith, message-long (d .batch) (p .sendable) f (h .0 .ours), h .0 .most, p .room), frames-within fs (h .1))
 
   -- the front of one more says nothing
   begun-more : isMore (pushOutcome new (length (d .buffer)) (d .begun)) ≡ true
   begun-more =
       let q = p .begins in
       front-more (message (d .batch) (q .frame)) (d .begun) (q .later) (length (d .buffer))
-      (omega (arith, message-long (d .batch) (p .numbered) (p .few) (p .ranges) (q .frame) (q .framing .ours), q .framing .most, p .room))
+      (omega (arith, message-long (d .batch) (p .sendable) (q .frame) (q .framing .ours), q .framing .most, p .room))
       (q .front)
 
   -- a caller who leaves the table alone
@@ -73,7 +73,7 @@ module _ (d : Delivery) (p : Premises d) where
   alone k e = e
 
   pub hands : (k : ℕ) (s t : End) → Like s t → Like (hand d k s) t
-  hands k s t l = record { receivers = l .receivers; lengths = p .same k (s .table) ∙ l .lengths }
+  hands k s t l = record { receivers = l .receivers; lengths = rw (p .same k (s .table)) (l .lengths) }
 
   -- the table's bytes are not seen
   pub unseen : AlikeTo (Likewise accepting Like bads says goes shows (hand d) alone hands) (run d) (drive accepting alone 0 (started d) (d .pieces))
@@ -92,9 +92,9 @@ module _ (d : Delivery) (p : Premises d) where
   frames-delivered =
       delivered accepting Fine fit keeps answers (messages (d .batch) (d .frames)) (d .buffer) (started d .state) open-fine (frames-within (d .frames) (p .framing)) (d .begun) begun-more (d .pieces) (p .cut)
 
-  pub whole-course : Course (d .batch) (p .numbered) (p .few) (p .ranges) (length (d .table)) (p .slots) [] (d .frames) (started d .state)
+  pub whole-course : Course (d .batch) (p .sendable) (length (d .table)) (p .slots) [] (d .frames) (started d .state)
   whole-course =
-      course (d .batch) (p .numbered) (p .few) (p .ranges) (length (d .table)) (p .slots) (d .frames) (p .framing) [] tt (started d .state) (open-held (d .batch) (p .numbered) (p .few) (p .ranges) (length (d .table)) (p .slots)) (open-good (d .batch .number) (length (d .table))) refl
+      course (d .batch) (p .sendable) (length (d .table)) (p .slots) (d .frames) (p .framing) [] tt (started d .state) (open-held (d .batch) (p .sendable) (length (d .table)) (p .slots)) (open-good (d .batch .number) (length (d .table))) refl
 
   pub demand3 : Demand3 d
   demand3 = record {

@@ -13,3 +13,4 @@ pub mod Sender
 pub mod Calls
 pub mod Unique
 pub mod Examples
+pub mod Edges

@@ -3,7 +3,7 @@
 use mathlib.Core.Path.{_≡_, refl, sym, ap, ap₂, _∙_, subst}
 use mathlib.Core.Bool.{false}
 use mathlib.Core.List.{List, [], _∷_, _++_, append-assoc, append-nil}
-use Prim.Native.Nat.{ℕ, suc, _+_, _-_, _*_, _/_, _%_, _≤_, _<_}
+use Prim.Native.Nat.{ℕ, suc, _+_, _-_, _*_, _/_, _%_, _≤_}
 use native.Mathlib.Nat.{suc-mul}
 use native.Mathlib.Omega.{arith}
 use lib.Dec.{ltb}
@@ -17,14 +17,14 @@ use Rattle.marks.proofs.Counts.{count-same, count-add, count-both, count-none, 
 use Rattle.record.specs.Record.{writtenBytes}
 use Rattle.record.specs.Frame.{isBadLength}
 use Rattle.batch.specs.State.{markedIn, standTold, standsTold}
-use Rattle.batch.specs.Verdict.{verdict, after, stored}
+use Rattle.batch.specs.Verdict.{after, stored}
 use Rattle.batch.specs.Frame.{taken, takeAll, outcome, acceptTold, acceptNext, acceptTable}
 use Rattle.batch.specs.declared.Receiver.{Receiver}
 use Rattle.batch.proofs.Good.{Good, not-bad, good-all}
 use Rattle.batch.proofs.Effects.{stored-length}
 use Rattle.dec.proofs.Cases.{by-bool}
 use Rattle.wire.specs.Receive.{End, Seen, accepting}
-use Rattle.wire.specs.Batch.{Batch, count, particleAt, weightAt, total, InRange, Item, recordOf, message, AllOf, Frame, Frames, messages, has, hasClose, arrivedCount, arrivedTotal, due, expected, expectedAll}
+use Rattle.wire.specs.Batch.{Batch, count, weightAt, total, Sendable, Item, recordOf, message, AllOf, Frame, Frames, messages, has, hasClose, arrivedCount, arrivedTotal, due, expected, expectedAll}
 use Rattle.wire.specs.Afterwards.{items}
 use Rattle.wire.proofs.Frames.{saidTo, afterAll}
 use Rattle.wire.proofs.Sums.{sum-same, has-none, all-of-append}
@@ -36,7 +36,7 @@ unfolding isBadLength
 good-length m some most =
     rw (ne-eqb (m * 16) 0 (λ e. omega arith), le-ltb 240 (m * 16) (omega arith), eq-eqb (m * 16 % 16) 0 (omega arith))
 
-module _ (b : Batch) (numbered : b .number < 65536) (few : count b ≤ 4096) (ranges : (i : ℕ) → i < count b → InRange (particleAt b i)) where
+module _ (b : Batch) (can : Sendable b) where
   -- ---- the bytes of a frame
 
   pub message-long : (f : List Item) → AllOf b f → length (message b f) ≡ length f * 16
@@ -44,11 +44,11 @@ module _ (b : Batch) (numbered : b .number < 65536) (few : count b ≤ 4096) (ra
   message-long [] h = refl
   message-long (item ∷ f) h =
       length-append (writtenBytes 0 (recordOf b item)) (message b f)
-      ∙ omega (arith, record-long b numbered few ranges item (h .0), message-long f (h .1), suc-mul (length f) 16)
+      ∙ omega (arith, record-long b can item (h .0), message-long f (h .1), suc-mul (length f) 16)
 
   module _ (n : ℕ) (slotted : count b * 16 ≤ n) where
     abbrev Holding : List Item → Receiver → Type 0
-    Holding = Held b numbered few ranges n
+    Holding = Held b can n
 
     -- ---- a frame's records, one after another
 
@@ -72,12 +72,12 @@ module _ (b : Batch) (numbered : b .number < 65536) (few : count b ≤ 4096) (ra
     }
     take-all (item ∷ f) a k l c r h t =
         let s : List ℕ = writtenBytes 0 (recordOf b item) ++ message b f in
-        let o = takes b numbered few ranges n slotted l r h k t item (a .0) c (message b f) in
+        let o = takes b can n slotted l r h k t item (a .0) c (message b f) in
         let go = take-all f (a .1) (suc k) (l ++ item ∷ []) (all-of-append b l (item ∷ []) c (a .0, tt)) (after (o .effect) r) (o .held) (stored (o .effect) t s) in
         record {
           receiver = go .receiver;
           table = go .table;
-          took = rw (o .verdict, drop-at (writtenBytes 0 (recordOf b item)) (message b f) 16 (record-long b numbered few ranges item (a .0))) (go .took);
+          took = rw (o .verdict, drop-at (writtenBytes 0 (recordOf b item)) (message b f) 16 (record-long b can item (a .0))) (go .took);
           holds = subst (λ (x : List Item). Holding x (go .receiver)) (append-assoc l (item ∷ []) f) (go .holds);
           long = go .long ∙ stored-length (o .effect) t s;
           fills = λ t₀ m g.

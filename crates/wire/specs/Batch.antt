@@ -58,6 +58,15 @@ pub record InRange (p : Particle) : Type 0 where
   pub z16 : mag (p .z) < 32_768
   pub light : p .weight ≤ 1_000_000
 
+-- A batch that can be sent.
+pub record Sendable (b : Batch) : Type 0 where
+  -- a "batch number" is a u16
+  pub numbered : b .number < 65_536
+  -- "N particle records (at most 4,096)"
+  pub few : count b ≤ 4_096
+  -- each one a particle record of document 01
+  pub ranges : (i : ℕ) → i < count b → InRange (particleAt b i)
+
 -- ---- "in frames that hold nothing else"
 
 -- A record of the batch: the particle of an index, or the close.

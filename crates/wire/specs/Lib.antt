@@ -5,4 +5,5 @@ pub mod Receive
 pub mod Call
 pub mod Batch
 pub mod Demand3
+pub mod Edges
 pub mod Afterwards

@@ -1,0 +1,91 @@
+-- Both ends of demand 3's range: the most of everything, and nothing at all. `proofs/Edges.antt` proves both records, so that no
+-- premise can be narrowed unnoticed. Assumes nothing.
+use mathlib.Core.Path.{_≡_}
+use mathlib.Core.List.{List, [], _∷_, _++_}
+use Prim.Native.Nat.{ℕ, zero, suc, _+_, _%_}
+use lib.IntN.{pos, negsuc}
+use lib.ListN.{length, take, drop, replicate}
+use Rattle.cobs.specs.Answers.{complete}
+use Rattle.cobs.specs.Code.{encode}
+use Rattle.wire.specs.Again.{Said}
+use Rattle.wire.specs.Loop.{framed}
+use Rattle.wire.specs.Receive.{Seen}
+use Rattle.wire.specs.Batch.{Particle, Batch, Item, particle, close, message, messages, expectedAll}
+use Rattle.wire.specs.Demand3.{Delivery, Premises, run}
+
+-- Complete, with so much weight of so many.
+abbrev pub completeWith : (total marked : ℕ) → Said Seen
+completeWith total marked = record { answer = complete; shown = record { total = total; marked = marked; stands = complete } }
+
+-- ---- The most of everything
+
+-- A particle at the ends of its ranges: -32,768, 32,767, -32,768, and 1,000,000.
+unfoldable pub heaviest : Particle
+heaviest = record { x = negsuc 32_767; y = pos 32_767; z = negsuc 32_767; weight = 1_000_000 }
+
+-- 4,096 of them in the batch of the largest number.
+unfoldable pub widest : Batch
+widest = record { number = 65_535; particles = replicate 4_096 heaviest }
+
+-- n particles, numbered from k on.
+abbrev pub numberedFrom : (n k : ℕ) → List Item
+numberedFrom zero k = []
+numberedFrom (suc n) k = particle k ∷ numberedFrom n (suc k)
+
+-- n frames of 15 particles each, numbered from k on.
+unfoldable pub fifteens : (n k : ℕ) → List (List Item)
+fifteens zero k = []
+fifteens (suc n) k = numberedFrom 15 k ∷ fifteens n (k + 15)
+
+-- 273 of them are 4,095 particles; the last particle shares its frame with the close.
+unfoldable pub lastFrame : List Item
+lastFrame = particle 4_095 ∷ close ∷ []
+
+-- Then the first frame begins once more: 100 bytes of it have come.
+unfoldable pub beginning : List ℕ
+beginning = take 100 (encode (message widest (numberedFrom 15 0)))
+
+-- All the bytes.
+unfoldable pub stream : List ℕ
+stream = framed (messages widest (fifteens 273 0 ++ lastFrame ∷ [])) ++ beginning
+
+-- Cut inside a frame; 240 bytes to decode into; a slot for each particle and no more; a caller who fills the table anew before
+-- each call.
+unfoldable pub most : Delivery
+most = record {
+  batch = widest;
+  frames = fifteens 273 0 ++ lastFrame ∷ [];
+  begun = beginning;
+  pieces = take 1_000 stream ∷ drop 1_000 stream ∷ [];
+  buffer = replicate 240 0;
+  table = replicate 65_536 0;
+  handed = λ k t. replicate (length t) (k % 256);
+}
+
+-- The premises are met; and after 273 answers that are due comes Complete, with each particle weighed once.
+pub record MostMet : Type 0 where
+  pub premises : Premises most
+  pub answers : run most .said ≡ expectedAll widest [] (fifteens 273 0) ++ completeWith 4_096_000_000 4_096 ∷ []
+
+-- ---- Nothing at all
+
+-- A batch without particles.
+abbrev pub nobody : Batch
+nobody = record { number = 0; particles = [] }
+
+-- Its close in a frame, in one piece; and no table.
+abbrev pub least : Delivery
+least = record {
+  batch = nobody;
+  frames = (close ∷ []) ∷ [];
+  begun = [];
+  pieces = framed (messages nobody ((close ∷ []) ∷ [])) ∷ [];
+  buffer = replicate 240 0;
+  table = [];
+  handed = λ k t. t;
+}
+
+-- The premises are met; and the close alone is answered Complete.
+pub record EmptyComplete : Type 0 where
+  pub premises : Premises least
+  pub answers : run least .said ≡ completeWith 0 0 ∷ []
