@@ -7,6 +7,7 @@ pub mod Filled
 pub mod Arrived
 pub mod Receiving
 pub mod Accepting
+pub mod Sentences
 pub mod Demand3
 pub mod Afterwards
 pub mod Sender

@@ -18,6 +18,7 @@ use Rattle.dec.specs.declared.stream.CobsDecoder.{CobsDecoder}
 use Rattle.dec.proofs.Cases.{by-bool}
 use Rattle.dec.proofs.Good.{good-of, of-good, good-byte, push-good}
 use Rattle.dec.proofs.Pieces.{length-byte, length-piece, piece-goes, piece-stops, dest-goes, dest-stops, byte-goes, further-keeps, further-counts, push-piece, pushDest-piece}
+use Rattle.dec.proofs.Restart.{used-within}
 use Rattle.wire.specs.Again as again
 use Rattle.wire.specs.Again.{Received, Said, Run, stopped, heard, andThen, joined}
 use Rattle.wire.specs.Loop.{Side, Taker, handOn, received, called, seen, run, drive}
@@ -37,6 +38,15 @@ byte-one : (d : CobsDecoder) (room b : ℕ) → isMore (byteOutcome d room b) �
 unfolding byteOutcome
 byte-one d room b =
     by-bool (d .skip) (λ q. rw q (λ e. absurd (true≢false e))) (λ q. rw q (result-one (d .place) room (stepped (d .state) b .state) (stepped (d .state) b .result)))
+
+-- A call takes no more than its piece, from any states.
+pub taken-within : {S View : Type 0} (taker : Taker S View) (w : Side S) (p : List ℕ) → received taker w p .consumed ≤ length p
+unfolding received
+taken-within taker w p =
+    by-bool (bad (w .decoder) (length (w .buffer))) (λ q. rw q zero-le)
+    (λ q.
+    by-bool (taker .isBad (w .state)) (λ t. rw (q, t) zero-le)
+    (λ t. rw (q, t, push-piece (w .decoder) (length (w .buffer)) q p) (used-within p (w .decoder) (length (w .buffer)))))
 
 module _ {S View : Type 0} (taker : Taker S View) (Fine : S → Type 0) (fit : (s : S) → Fine s → taker .isBad s ≡ false)
     (keeps : (s : S) (f : List ℕ) → Fine s → Fine (taker .after s f)) where
@@ -112,7 +122,7 @@ module _ {S View : Type 0} (taker : Taker S View) (Fine : S → Type 0) (fit : (
         rw (received-on w g (b ∷ p), piece-stops (w .decoder) (length (w .buffer)) b p e, e) (byte-one (w .decoder) (length (w .buffer)) b e)
 
     -- a call takes a byte or more
-    takes : 1 ≤ received taker w (b ∷ p) .consumed
+    pub takes : 1 ≤ received taker w (b ∷ p) .consumed
     takes =
         by-bool (isMore o) (λ e. rw (received-goes e) (suc-le-suc zero-le)) (λ e. rw (received-one e) (le-refl 1))
 
@@ -159,7 +169,7 @@ module _ {S View : Type 0} (taker : Taker S View) (Fine : S → Type 0) (fit : (
       (λ e. rw e (record { said = ap (λ (l : List (Said View)). record { answer = t; shown = v } ∷ l) (a .said); side = a .side }))
 
   -- no byte: nothing
-  received-none : (w : Side S) → Good w → received taker w [] ≡ record { side = w; answer = more; consumed = 0 }
+  pub received-none : (w : Side S) → Good w → received taker w [] ≡ record { side = w; answer = more; consumed = 0 }
   unfolding pieceOutcome pieceDest
   received-none w g = received-on w g []
 

@@ -3,6 +3,7 @@ pub mod Again
 pub mod Loop
 pub mod Receive
 pub mod Call
+pub mod Sentences
 pub mod Batch
 pub mod Demand3
 pub mod Edges
