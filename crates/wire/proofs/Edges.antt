@@ -7,7 +7,7 @@ use native.Mathlib.Nat.{not-suc-le-zero, suc-mul}
 use native.Mathlib.Decide.{ℕ-discrete}
 use native.Mathlib.Omega.{arith}
 use lib.Dec.{eqb, ltb}
-use lib.ListN.{length, take, drop, length-replicate, getD-replicate, take-append-drop}
+use lib.ListN.{length, take, drop, replicate, length-replicate, getD-replicate, take-append-drop}
 use borrow.Author.Tests.{eq-eqb, ltb-true, ltb-false}
 use Rattle.cobs.specs.Answers.{complete}
 use Rattle.cobs.specs.Code.{encode}
@@ -15,13 +15,15 @@ use Rattle.marks.specs.Marks.{countBelow}
 use Rattle.dec.proofs.Cases.{by-bool}
 use Rattle.wire.specs.Again.{Said}
 use Rattle.wire.specs.Receive.{Seen}
-use Rattle.wire.specs.Batch.{Particle, Batch, count, particleAt, weightAt, sumBelow, total, InRange, Item, particle, close, AllOf, message, Frame, Frames, has, hasClose, due, expected, expectedAll}
+use Rattle.wire.specs.Batch.{Particle, Batch, count, weightAt, sumBelow, total, InRange, Sendable, Item, particle, close, AllOf, message, Frame, Frames, has, hasClose, due, expected, expectedAll}
 use Rattle.wire.specs.Demand3.{Begun, Premises}
 use Rattle.wire.specs.Afterwards.{items}
-use Rattle.wire.specs.Edges.{completeWith, heaviest, widest, numberedFrom, fifteens, lastFrame, beginning, stream, most, MostMet, nobody, least, EmptyComplete}
+use Rattle.wire.specs.Among.{bytesOf, oursIn, Other, AllCame, Among}
+use Rattle.wire.specs.Edges.{completeWith, heaviest, widest, numberedFrom, fifteens, lastFrame, beginning, stream, most, MostMet, before, next, crowded, MostAmong, nobody, least, EmptyComplete}
 use Rattle.wire.proofs.Sums.{hasClose-close}
 use Rattle.wire.proofs.Demand3.{completed, demand3}
 use Rattle.wire.proofs.Afterwards.{has-append}
+use Rattle.wire.proofs.Among.{delivered-among}
 
 close-frame : (b : Batch) → Frame b (close ∷ [])
 close-frame b = record { some = omega arith; most = omega arith; ours = (tt, tt) }
@@ -49,24 +51,30 @@ widest-count : count widest ≡ 4096
 unfolding widest
 widest-count = length-replicate 4096 heaviest
 
-widest-number : widest .number ≡ 65535
-unfolding widest
-widest-number = refl
-
 heaviest-in : InRange heaviest
 unfolding heaviest
 heaviest-in = record { x16 = omega arith; y16 = omega arith; z16 = omega arith; light = omega arith }
 
-widest-in : (i : ℕ) → i < 4096 → InRange (particleAt widest i)
-unfolding widest
-widest-in i h = subst InRange (sym (getD-replicate 4096 i heaviest _ h)) heaviest-in
+heavy : (n : ℕ) → n < 65536 → Sendable (record { number = n; particles = replicate 4096 heaviest })
+heavy n h = record {
+  numbered = omega arith;
+  few = omega (arith, length-replicate 4096 heaviest);
+  ranges = λ i k. subst InRange (sym (getD-replicate 4096 i heaviest _ (omega (arith, length-replicate 4096 heaviest)))) heaviest-in;
+}
 
-numbered-of : (n k : ℕ) → k + n ≤ 4096 → AllOf widest (numberedFrom n k)
-numbered-of zero k h = tt
-numbered-of (suc n) k h = (omega (arith, widest-count), numbered-of n (suc k) (omega arith))
+widest-sendable : Sendable widest
+unfolding widest
+widest-sendable = heavy 65535 (omega arith)
+
+numbered-of : (b : Batch) (n k : ℕ) → k + n ≤ count b → AllOf b (numberedFrom n k)
+numbered-of b zero k h = tt
+numbered-of b (suc n) k h = (omega arith, numbered-of b n (suc k) (omega arith))
+
+fifteen-of : (b : Batch) (k : ℕ) → k + 15 ≤ count b → Frame b (numberedFrom 15 k)
+fifteen-of b k h = record { some = omega arith; most = omega arith; ours = numbered-of b 15 k h }
 
 fifteen-frame : (k : ℕ) → k + 15 ≤ 4096 → Frame widest (numberedFrom 15 k)
-fifteen-frame k h = record { some = omega arith; most = omega arith; ours = numbered-of 15 k h }
+fifteen-frame k h = fifteen-of widest k (omega (arith, widest-count))
 
 all-frames : (n k : ℕ) → k + n * 15 ≤ 4095 → Frames widest (fifteens n k ++ lastFrame ∷ [])
 unfolding fifteens lastFrame
@@ -85,7 +93,7 @@ begins = record {
 met : Premises most
 unfolding most stream
 met = record {
-  sendable = record { numbered = omega (arith, widest-number); few = omega (arith, widest-count); ranges = λ i h. widest-in i (omega (arith, widest-count)) };
+  sendable = widest-sendable;
   framing = all-frames 273 0 (omega arith);
   begins = begins;
   cut = ap (λ (t : List ℕ). take 1000 stream ++ t) (append-nil (drop 1000 stream)) ∙ take-append-drop 1000 stream;
@@ -160,3 +168,44 @@ most-met = record {
       demand3 most met .answers ∙ last-due widest [] (fifteens 273 0) lastFrame
       ∙ ap (λ (x : Said Seen). expectedAll widest [] (fifteens 273 0) ++ x ∷ []) all-due;
 }
+
+-- ---- the most of everything, and others among it
+
+before-frame : Frame before (numberedFrom 15 4081)
+unfolding before
+before-frame = fifteen-of (record { number = 65534; particles = replicate 4096 heaviest }) 4081 (omega (arith, length-replicate 4096 heaviest))
+
+is-before : Other widest before
+unfolding widest before
+is-before = record { unlike = λ e. omega arith; sendable = heavy 65534 (omega arith) }
+
+is-next : Other widest next
+unfolding widest next
+is-next = record {
+  unlike = λ e. omega arith;
+  sendable = record { numbered = omega arith; few = omega arith; ranges = λ i h. absurd (not-suc-le-zero h) };
+}
+
+crowded-came : (fs : List (List Item)) → Frames widest fs → AllCame widest (crowded fs)
+unfolding crowded
+crowded-came [] g = tt
+crowded-came (f ∷ fs) g = (is-before, before-frame, (g .0, (is-next, close-frame next, crowded-came fs (g .1))))
+
+crowded-ours : (fs : List (List Item)) → oursIn (crowded fs) ≡ fs
+unfolding crowded
+crowded-ours [] = refl
+crowded-ours (f ∷ fs) = ap (λ (t : List (List Item)). f ∷ t) (crowded-ours fs)
+
+crowd : Among most
+unfolding most
+crowd = record {
+  came = crowded (most .frames);
+  all = crowded-came (most .frames) (met .framing);
+  frames = crowded-ours (most .frames);
+  pieces = (bytesOf widest (crowded (most .frames)) ++ beginning) ∷ [];
+  cut = append-nil (bytesOf widest (crowded (most .frames)) ++ beginning);
+}
+
+pub most-among : MostAmong
+unfolding crowd
+most-among = record { among = crowd; crowd = refl; delivered = delivered-among most met crowd; late = refl; early = refl }

@@ -7,6 +7,9 @@ pub mod Filled
 pub mod Arrived
 pub mod Receiving
 pub mod Accepting
+pub mod Others
+pub mod Mixed
+pub mod Among
 pub mod Sentences
 pub mod Demand3
 pub mod Afterwards

@@ -3,14 +3,14 @@
 use mathlib.Core.Path.{_≡_, refl, sym, ap, ap₂, _∙_, subst}
 use mathlib.Core.Bool.{true, false, true≢false}
 use mathlib.Core.List.{List, [], _∷_, _++_}
-use Prim.Native.Nat.{ℕ, zero, suc, _+_, _≤_, suc-le-suc, zero-le}
+use Prim.Native.Nat.{ℕ, zero, suc, _≤_, suc-le-suc, zero-le}
 use native.Mathlib.Nat.{not-suc-le-zero, le-of-suc-le-suc, le-refl}
 use native.Mathlib.Omega.{arith}
 use lib.Dec.{eqb, ltb}
 use lib.ListN.{length, take, drop, length-drop}
 use Rattle.cobs.specs.Answers.{Told, more, isDone}
 use Rattle.dec.specs.State.{stepped}
-use Rattle.dec.specs.Stream.{Outcome, isMore, bad, resultOutcome, byteOutcome, byteDest, further, pieceOutcome, pieceDest}
+use Rattle.dec.specs.Stream.{Outcome, isMore, bad, resultOutcome, byteOutcome, byteDest, further, pieceOutcome, pieceDest, pushDest}
 use Rattle.dec.specs.declared.state.DecoderState.{DecoderState}
 use Rattle.dec.specs.declared.state.DecodeResult.{DecodeResult}
 use Rattle.dec.specs.declared.state.DecodeResult.the-variants.{NoData, DataStart, DataComplete, DataContinue, InvalidFrame}
@@ -38,6 +38,10 @@ byte-one : (d : CobsDecoder) (room b : ℕ) → isMore (byteOutcome d room b) �
 unfolding byteOutcome
 byte-one d room b =
     by-bool (d .skip) (λ q. rw q (λ e. absurd (true≢false e))) (λ q. rw q (result-one (d .place) room (stepped (d .state) b .state) (stepped (d .state) b .result)))
+
+pub length-push : (d : CobsDecoder) (p m : List ℕ) → length (pushDest d p m) ≡ length m
+unfolding pushDest
+length-push d p m = by-bool (bad d (length m)) (λ q. rw q) (λ q. rw q (length-piece p d (length m) m))
 
 -- A call takes no more than its piece, from any states.
 pub taken-within : {S View : Type 0} (taker : Taker S View) (w : Side S) (p : List ℕ) → received taker w p .consumed ≤ length p
@@ -174,7 +178,7 @@ module _ {S View : Type 0} (taker : Taker S View) (Fine : S → Type 0) (fit : (
   received-none w g = received-on w g []
 
   -- a byte at which the piece goes on says nothing
-  byBytes-goes : (w : Side S) → Good w → (b : ℕ) (p : List ℕ) → isMore (byteOutcome (w .decoder) (length (w .buffer)) b) ≡ true → byBytes w (b ∷ p) ≡ byBytes (past w b) p
+  pub byBytes-goes : (w : Side S) → Good w → (b : ℕ) (p : List ℕ) → isMore (byteOutcome (w .decoder) (length (w .buffer)) b) ≡ true → byBytes w (b ∷ p) ≡ byBytes (past w b) p
   unfolding byBytes
   byBytes-goes w g b p e = rw (received-goes w g b [] e, received-none (past w b) (past-good w g b))
 

@@ -5,13 +5,14 @@ use mathlib.Core.List.{List, [], _∷_, _++_}
 use Prim.Native.Nat.{ℕ, zero, suc, _+_, _%_}
 use lib.IntN.{pos, negsuc}
 use lib.ListN.{length, take, drop, replicate}
-use Rattle.cobs.specs.Answers.{complete}
+use Rattle.cobs.specs.Answers.{complete, stale, ahead}
 use Rattle.cobs.specs.Code.{encode}
 use Rattle.wire.specs.Again.{Said}
 use Rattle.wire.specs.Loop.{framed}
 use Rattle.wire.specs.Receive.{Seen}
 use Rattle.wire.specs.Batch.{Particle, Batch, Item, particle, close, message, messages, expectedAll}
 use Rattle.wire.specs.Demand3.{Delivery, Premises, run}
+use Rattle.wire.specs.Among.{Came, ours, other, idle, Among, refusal, DeliveredAmong}
 
 -- Complete, with so much weight of so many.
 abbrev pub completeWith : (total marked : ℕ) → Said Seen
@@ -66,6 +67,29 @@ most = record {
 pub record MostMet : Type 0 where
   pub premises : Premises most
   pub answers : run most .said ≡ expectedAll widest [] (fifteens 273 0) ++ completeWith 4_096_000_000 4_096 ∷ []
+
+-- ---- The most of everything, and others among it
+
+-- The batch before it, as large; all its fifteens come late, again and again.
+unfoldable pub before : Batch
+before = record { number = 65_534; particles = replicate 4_096 heaviest }
+
+-- The batch after it: the numbers begin again at 0.
+unfoldable pub next : Batch
+next = record { number = 0; particles = [] }
+
+-- With each of our frames one of the batch before and one of the batch after; each with a zero before and after.
+unfoldable pub crowded : (frames : List (List Item)) → List Came
+crowded [] = idle ∷ []
+crowded (frame ∷ frames) = idle ∷ other before (numberedFrom 15 4_081) ∷ idle ∷ ours frame ∷ idle ∷ other next (close ∷ []) ∷ crowded frames
+
+-- It can come so; then our frames are answered as before, and of the others one is Stale, one Ahead.
+pub record MostAmong : Type 0 where
+  pub among : Among most
+  pub crowd : among .came ≡ crowded (most .frames)
+  pub delivered : DeliveredAmong most among
+  pub late : refusal 65_534 65_535 ≡ stale 0
+  pub early : refusal 0 65_535 ≡ ahead 0
 
 -- ---- Nothing at all
 

@@ -6,5 +6,6 @@ pub mod Call
 pub mod Sentences
 pub mod Batch
 pub mod Demand3
-pub mod Edges
 pub mod Afterwards
+pub mod Among
+pub mod Edges
