@@ -4,11 +4,11 @@ use mathlib.Core.Path.{_≡_, refl, sym, ap, _∙_}
 use mathlib.Core.Logic.{_≢_}
 use mathlib.Core.Bool.{false}
 use mathlib.Core.List.{List}
-use Prim.Native.Nat.{ℕ, zero, suc, _/_, _-_}
+use Prim.Native.Nat.{ℕ, zero, suc, _/_, _≤_}
 use native.Mathlib.Omega.{arith}
 use lib.Dec.{eqb, ltb}
 use lib.ListN.{length, drop}
-use Rattle.cobs.specs.Answers.{Told, more}
+use Rattle.cobs.specs.Answers.{more}
 use Rattle.record.specs.Frame.{isBadLength}
 use Rattle.batch.specs.State.{markedIn, isBad, standBy, standTold}
 use Rattle.batch.specs.Verdict.{verdict, after, stored}
@@ -43,13 +43,11 @@ keeps e f g =
 
 -- ---- its answer is never More
 
-not-more : (t : Told) → t .number ≢ 14 → t .number ≢ more .number
-not-more t h = h
-
-stands-not-more : (marked sum : ℕ) (c : Close) → standBy marked sum c .number ≢ 14
-stands-not-more m s Not = λ e. omega arith
-stands-not-more m s (Taken count total) =
-    by-bool (ltb m count) (λ q. rw q (λ e. omega arith)) (λ q. by-bool (eqb s total) (λ p. rw (q, p) (λ e. omega arith)) (λ p. rw (q, p) (λ e. omega arith)))
+-- how a batch stands is told from 15 on
+stands-from : (marked sum : ℕ) (c : Close) → 15 ≤ standBy marked sum c .number
+stands-from m s Not = omega arith
+stands-from m s (Taken count total) =
+    by-bool (ltb m count) (λ q. rw q (omega arith)) (λ q. by-bool (eqb s total) (λ p. rw (q, p) (omega arith)) (λ p. rw (q, p) (omega arith)))
 
 told-not-more : (a : Answer) → told a .number ≢ 14
 told-not-more BadState = λ e. omega arith
@@ -68,11 +66,22 @@ told-not-more Differs = λ e. omega arith
 outcome-not-more : (o : Outcome) → outcomeTold o .number ≢ 14
 unfolding standTold
 outcome-not-more (refused a) = told-not-more a
-outcome-not-more (taken r t) = stands-not-more (markedIn r) (r .total) (r .close)
+outcome-not-more (taken r t) = λ e. omega (arith, stands-from (markedIn r) (r .total) (r .close))
 
 pub answers : (e : End) (f : List ℕ) → accepting .says e f .number ≢ more .number
 unfolding acceptTold
 answers e f = outcome-not-more (outcome (e .receiver) (e .table) f)
+
+-- ---- a refusal changes nothing
+
+outcome-kept : (e : End) (o : Outcome) → outcomeTold o .number ≤ 13 → record { receiver = nextAfter (e .receiver) o; table = tableAfter (e .table) o } ≡ e
+unfolding standTold
+outcome-kept e (refused a) h = refl
+outcome-kept e (taken r t) h = absurd (omega (arith, stands-from (markedIn r) (r .total) (r .close)))
+
+pub kept : (e : End) (f : List ℕ) → accepting .says e f .number ≤ 13 → accepting .after e f ≡ e
+unfolding acceptTold acceptNext acceptTable
+kept e f = outcome-kept e (outcome (e .receiver) (e .table) f)
 
 -- ---- blind to the table's bytes
 

@@ -24,7 +24,9 @@ use Rattle.wire.proofs.Among.{receiver-after, end-after}
 module _ (d : Delivery) (p : Premises d) where
   whole-course : Course (d .batch) (p .sendable) (length (d .table)) (p .slots) [] (d .frames) (started d .state)
   whole-course =
-      course (d .batch) (p .sendable) (length (d .table)) (p .slots) (d .frames) (p .framing) [] tt (started d .state) (open-held (d .batch) (p .sendable) (length (d .table)) (p .slots)) (open-good (d .batch .number) (length (d .table))) refl
+      let h = open-held (d .batch) (p .sendable) (length (d .table)) (p .slots) in
+      let q = open-good (d .batch .number) (length (d .table)) in
+      course (d .batch) (p .sendable) (length (d .table)) (p .slots) (d .frames) (p .framing) [] tt (started d .state) h q refl
 
   -- ---- the total
 

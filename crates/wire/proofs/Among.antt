@@ -8,8 +8,8 @@ use lib.ListN.{length}
 use Rattle.cobs.specs.Code.{encode}
 use Rattle.dec.specs.Stream.{new, isMore, pushOutcome}
 use Rattle.batch.proofs.Good.{open-good}
-use Rattle.wire.specs.Again.{Said}
-use Rattle.wire.specs.Loop.{drive, framed}
+use Rattle.wire.specs.Again.{Said, Run}
+use Rattle.wire.specs.Loop.{Side, drive, framed}
 use Rattle.wire.specs.Receive.{End, Seen, accepting}
 use Rattle.wire.specs.Batch.{Batch, Item, message, messages, Frames, expected, expectedAll}
 use Rattle.wire.specs.Demand3.{Delivery, Premises, started, hand, run}
@@ -17,8 +17,9 @@ use Rattle.wire.specs.Afterwards.{LeftAlone}
 use Rattle.wire.specs.Among.{Came, ours, other, idle, bytesOf, oursIn, AllCame, Among, runAmong, expectedAmong, toOurs, DeliveredAmong}
 use Rattle.wire.proofs.Again.{AlikeTo}
 use Rattle.wire.proofs.Hands.{Likewise, drive-same}
-use Rattle.wire.proofs.Loop.{drive-bytes}
-use Rattle.wire.proofs.Frames.{front-more, waiting-good}
+use Rattle.wire.proofs.Table.{alone, hands, unseen}
+use Rattle.wire.proofs.Loop.{byBytes, drive-bytes}
+use Rattle.wire.proofs.Frames.{front-more, waiting, waiting-good}
 use Rattle.wire.proofs.Arrived.{open-held}
 use Rattle.wire.proofs.Receiving.{message-long, afterAll}
 use Rattle.wire.proofs.Accepting.{Fine, fit, keeps, answers, Like, bads, says, goes, shows}
@@ -37,45 +38,52 @@ module _ (d : Delivery) (p : Premises d) where
       (omega (arith, message-long (d .batch) (p .sendable) (q .frame) (q .framing .ours), q .framing .most, p .room))
       (q .front)
 
-  -- a caller who leaves the table alone
-  abbrev pub alone : ℕ → End → End
-  alone k e = e
-
-  pub hands : (k : ℕ) (s t : End) → Like s t → Like (hand d k s) t
-  hands k s t l = record { receivers = l .receivers; lengths = rw (p .same k (s .table)) (l .lengths) }
-
-  open-fine : Fine (started d .state)
+  pub open-fine : Fine (started d .state)
   unfolding Fine
   open-fine = open-good (d .batch .number) (length (d .table))
 
-  module _ (a : Among d) where
-    -- the table's bytes are not seen
-    pub unseen : AlikeTo (Likewise accepting Like bads says goes shows (hand d) alone hands) (runAmong d a) (drive accepting alone 0 (started d) (a .pieces))
-    unseen =
-        drive-same accepting Like bads says goes shows (hand d) alone hands (a .pieces) 0 (started d) (started d)
-        (record { decoders = refl; buffers = refl; states = record { receivers = refl; lengths = refl } })
+  pub tables : (k : ℕ) (t : List ℕ) → length (d .handed k t) ≡ length t
+  tables k t = rw (p .same k t)
 
-    -- what such a caller hears, and what is left
-    pub left : Left (d .batch) (p .sendable) (length (d .table)) (p .slots) (length (d .buffer)) (p .room) (d .begun) begun-more [] (a .came) (started d .state) (drive accepting alone 0 (started d) (a .pieces))
+  module _ (a : Among d) where
+    pub heard-alike : AlikeTo (Likewise accepting Like bads says goes shows (hand d) alone (hands (d .handed) tables)) (runAmong d a) (drive accepting alone 0 (started d) (a .pieces))
+    heard-alike = unseen (d .handed) tables (started d) (a .pieces)
+
+    -- what is said to what came, and what is left of it
+    abbrev pub LeftBy : Run (Side End) Seen → Type 0
+    LeftBy r =
+        Left (d .batch) (p .sendable) (length (d .table)) (p .slots) (length (d .buffer)) (p .room) (d .begun) begun-more [] (a .came) (started d .state) r
+
+    -- from a new decoder over a buffer as long, with the receiver as it was opened
+    pub from-new : (buffer : List ℕ) → length buffer ≡ length (d .buffer)
+        → LeftBy (byBytes accepting Fine fit keeps (waiting accepting Fine fit keeps answers buffer (started d .state)) (bytesOf (d .batch) (a .came) ++ d .begun))
+    from-new buffer l =
+        let h = open-held (d .batch) (p .sendable) (length (d .table)) (p .slots) in
+        let q = open-good (d .batch .number) (length (d .table)) in
+        mixed (d .batch) (p .sendable) (length (d .table)) (p .slots) (length (d .buffer)) (p .room) (d .begun) begun-more (a .came) (a .all) [] tt
+        buffer l (started d .state) h q refl
+
+    -- however it is cut, by a caller who leaves the table alone
+    pub left : LeftBy (drive accepting alone 0 (started d) (a .pieces))
     left =
         left-alike (d .batch) (p .sendable) (length (d .table)) (p .slots) (length (d .buffer)) (p .room) (d .begun) begun-more [] (a .came) (started d .state)
         (drive-bytes accepting Fine fit keeps (a .pieces) 0 (started d) (waiting-good accepting Fine fit keeps answers (d .buffer) (started d .state) open-fine))
-        (rw (a .cut)
-        (mixed (d .batch) (p .sendable) (length (d .table)) (p .slots) (length (d .buffer)) (p .room) (d .begun) begun-more (a .came) (a .all) [] tt (d .buffer) refl (started d .state) (open-held (d .batch) (p .sendable) (length (d .table)) (p .slots)) (open-good (d .batch .number) (length (d .table))) refl))
+        (rw (a .cut) (from-new (d .buffer) refl))
 
     pub said-among : runAmong d a .said ≡ expectedAmong (d .batch) [] (a .came)
-    said-among = unseen .said ∙ left .says
+    said-among = heard-alike .said ∙ left .says
 
     -- the receiver, and the table of a caller who leaves it alone: as if ours alone had come
     alone-left : drive accepting alone 0 (started d) (a .pieces) .side .state ≡ end d
     alone-left = left .state ∙ ap (λ (fs : List (List Item)). afterAll (started d .state) (messages (d .batch) fs)) (a .frames)
 
     receiver-left : runAmong d a .side .state .receiver ≡ end d .receiver
-    receiver-left = unseen .sides .states .receivers ∙ ap (λ (e : End). e .receiver) alone-left
+    receiver-left = heard-alike .sides .states .receivers ∙ ap (λ (e : End). e .receiver) alone-left
 
     end-left : LeftAlone d → runAmong d a .side .state ≡ end d
     end-left untouched =
-        drive-same accepting _≡_ (λ s t e. ap (accepting .isBad) e) (λ s t e f. ap (λ (x : End). accepting .says x f) e) (λ s t e f. ap (λ (x : End). accepting .after x f) e) (λ s t e. ap (accepting .shows) e) (hand d) alone handed-same (a .pieces) 0 (started d) (started d)
+        drive-same accepting _≡_ (λ s t e. ap (accepting .isBad) e) (λ s t e f. ap (λ (x : End). accepting .says x f) e)
+        (λ s t e f. ap (λ (x : End). accepting .after x f) e) (λ s t e. ap (accepting .shows) e) (hand d) alone handed-same (a .pieces) 0 (started d) (started d)
         (record { decoders = refl; buffers = refl; states = refl }) .sides .states
         ∙ alone-left
       where

@@ -1,4 +1,4 @@
--- Demand 3 at both ends of its range. Assumes nothing.
+-- Demand 3 and what may come among and before its frames, at both ends of their range. Assumes nothing.
 use mathlib.Core.Path.{_≡_, refl, sym, ap, _∙_, subst}
 use mathlib.Core.Bool.{Bool, true, _||_, or-true}
 use mathlib.Core.List.{List, [], _∷_, _++_, append-nil, append-assoc}
@@ -9,41 +9,67 @@ use native.Mathlib.Omega.{arith}
 use lib.Dec.{eqb, ltb}
 use lib.ListN.{length, take, drop, replicate, length-replicate, getD-replicate, take-append-drop}
 use borrow.Author.Tests.{eq-eqb, ltb-true, ltb-false}
-use Rattle.cobs.specs.Answers.{complete}
+use Rattle.cobs.specs.Answers.{invalidFrame, badLength, complete}
 use Rattle.cobs.specs.Code.{encode}
-use Rattle.marks.specs.Marks.{countBelow}
+use Rattle.marks.specs.Marks.{bitAt, marked, countBelow, markedBelow}
+use Rattle.dec.specs.Stream as stream
+use Rattle.dec.specs.Stream.{skipping, bad, byteOutcome, byteDest, further, pieceOutcome, pieceDest, pushOutcome, pushDest}
+use Rattle.record.specs.Frame.{isBadLength}
+use Rattle.batch.specs.State.{opened, limit, isBad, standTold, standsTold}
+use Rattle.batch.specs.Frame.{outcome, acceptTold, acceptNext, acceptTable}
 use Rattle.dec.proofs.Cases.{by-bool}
+use Rattle.wire.specs.Again as again
 use Rattle.wire.specs.Again.{Said}
+use Rattle.wire.specs.Loop.{received}
 use Rattle.wire.specs.Receive.{Seen}
 use Rattle.wire.specs.Batch.{Particle, Batch, count, weightAt, sumBelow, total, InRange, Sendable, Item, particle, close, AllOf, message, Frame, Frames, has, hasClose, due, expected, expectedAll}
-use Rattle.wire.specs.Demand3.{Begun, Premises}
+use Rattle.wire.specs.Demand3.{Begun, Premises, run}
 use Rattle.wire.specs.Afterwards.{items}
-use Rattle.wire.specs.Among.{bytesOf, oursIn, Other, AllCame, Among}
-use Rattle.wire.specs.Edges.{completeWith, heaviest, widest, numberedFrom, fifteens, lastFrame, beginning, stream, most, MostMet, before, next, crowded, MostAmong, nobody, least, EmptyComplete}
+use Rattle.wire.specs.Among.{ours, bytesOf, oursIn, Other, AllCame, Among}
+use Rattle.wire.specs.Anew.{Anew}
+use Rattle.wire.specs.Noise.{AllRefused, noiseRun, Noisy}
+use Rattle.wire.specs.Edges.{completeWith, heaviest, widest, numberedFrom, fifteens, lastFrame, beginning, stream, most, MostMet, before, next, crowded, MostAmong, nobody, closing, leastInto, least, EmptyComplete, CompleteAgain, noise, refusedWith, CompleteAfterNoise}
 use Rattle.wire.proofs.Sums.{hasClose-close}
 use Rattle.wire.proofs.Demand3.{completed, demand3}
 use Rattle.wire.proofs.Afterwards.{has-append}
 use Rattle.wire.proofs.Among.{delivered-among}
+use Rattle.wire.proofs.Anew.{after-delivery}
+use Rattle.wire.proofs.Noise.{unmoved}
 
 close-frame : (b : Batch) → Frame b (close ∷ [])
 close-frame b = record { some = omega arith; most = omega arith; ours = (tt, tt) }
 
 -- ---- nothing at all
 
+met-into : (buffer : List ℕ) → 240 ≤ length buffer → Premises (leastInto buffer)
+met-into buffer h = record {
+  sendable = record { numbered = omega arith; few = omega arith; ranges = λ i h. absurd (not-suc-le-zero h) };
+  framing = (close-frame nobody, tt);
+  begins = record { frame = close ∷ []; framing = close-frame nobody; later = encode (message nobody (close ∷ [])); front = refl };
+  cut = refl;
+  room = omega arith;
+  slots = omega arith;
+  same = λ k t. refl;
+}
+
+met-least : Premises least
+met-least = met-into (replicate 240 0) (omega (arith, length-replicate {A = ℕ} 240 0))
+
 pub empty-complete : EmptyComplete
 unfolding sumBelow countBelow
-empty-complete = record { premises = met; answers = demand3 least met .answers }
-  where
-    met : Premises least
-    met = record {
-      sendable = record { numbered = omega arith; few = omega arith; ranges = λ i h. absurd (not-suc-le-zero h) };
-      framing = (close-frame nobody, tt);
-      begins = record { frame = close ∷ []; framing = close-frame nobody; later = encode (message nobody (close ∷ [])); front = refl };
-      cut = refl;
-      room = omega arith;
-      slots = omega arith;
-      same = λ k t. refl;
-    }
+empty-complete = record { premises = met-least; answers = demand3 least met-least .answers }
+
+-- nothing else comes with it
+abbrev nothing-else : Among least
+nothing-else =
+    record { came = ours (close ∷ []) ∷ []; all = (close-frame nobody, tt); frames = refl; pieces = closing ∷ []; cut = refl }
+
+pub complete-again : CompleteAgain
+unfolding sumBelow countBelow
+complete-again =
+    let a : Anew (run least .side) 240 = after-delivery least met-least nothing-else refl in
+    let m : Premises (leastInto (run least .side .buffer)) = met-into (run least .side .buffer) (omega (arith, a .buffer)) in
+    record { premises = m; answers = a .answers (leastInto (run least .side .buffer)) m refl }
 
 -- ---- the most of everything: the premises
 
@@ -209,3 +235,24 @@ crowd = record {
 pub most-among : MostAmong
 unfolding crowd
 most-among = record { among = crowd; crowd = refl; delivered = delivered-among most met crowd; late = refl; early = refl }
+
+-- ---- noise before
+
+noise-refused : noiseRun least skipping noise .said ≡ refusedWith badLength ∷ refusedWith (invalidFrame 1 0) ∷ []
+unfolding again.drive again.run again.runIn received bad byteOutcome byteDest further stream.joined pieceOutcome pieceDest pushOutcome pushDest opened limit isBad standTold standsTold markedBelow marked bitAt countBelow isBadLength outcome acceptTold acceptNext acceptTable
+noise-refused = refl
+
+noisy : Noisy least nothing-else
+unfolding bad
+noisy = record {
+  decoder = skipping;
+  fit = refl;
+  bytes = 5 ∷ 17 ∷ 0 ∷ 2 ∷ 17 ∷ 0 ∷ 3 ∷ 17 ∷ 0 ∷ [];
+  refused = subst AllRefused (sym noise-refused) (omega arith, (omega arith, tt));
+  pieces = (noise ++ closing) ∷ [];
+  cut = refl;
+}
+
+pub complete-after-noise : CompleteAfterNoise
+unfolding sumBelow countBelow noisy
+complete-after-noise = unmoved least met-least nothing-else noisy .answers ∙ ap (λ (t : List (Said Seen)). t ++ completeWith 0 0 ∷ []) noise-refused

@@ -13,7 +13,7 @@ use borrow.Author.Tests.{ne-eqb, eqb-true}
 use Rattle.cobs.specs.Answers.{tell, done, more}
 use Rattle.cobs.specs.Code.{encode, over}
 use Rattle.cobs.proofs.Over.{over-fits}
-use Rattle.dec.specs.Stream.{Outcome, new, stops, isMore, bad, byteOutcome, byteDest, pieceOutcome, pieceDest, pushOutcome, pushDest}
+use Rattle.dec.specs.Stream.{Outcome, new, goes, stops, isMore, bad, byteOutcome, byteDest, pieceOutcome, pieceDest, pushOutcome, pushDest}
 use Rattle.dec.proofs.Cases.{by-bool}
 use Rattle.dec.proofs.Good.{new-good}
 use Rattle.dec.proofs.Pieces.{joined-stop, push-piece, pushDest-piece, push-cut}
@@ -37,6 +37,11 @@ front-more m s later room h e =
     let u : length (encode m) + 1 ≤ length s =
     rw (← push-piece new room g s, c) at (used-within s new room) in
     absurd (omega (arith, u, length-append s later, ap length e)))
+
+-- no byte: the decoder waits
+pub push-none : (room : ℕ) → pushOutcome new room [] ≡ goes new
+unfolding pieceOutcome
+push-none room = push-piece new room (new-good room) []
 
 -- what is left after a frame and its zero
 drop-past : (s t : List ℕ) → drop (length s + 1) (s ++ 0 ∷ t) ≡ t
@@ -112,9 +117,8 @@ module _ {S View : Type 0} (taker : Taker S View) (Fine : S → Type 0) (fit : (
   inside buffer p s = record { decoder = pushOutcome new (length buffer) p .next; buffer = pushDest new p buffer; state = s }
 
   inside-none : (buffer : List ℕ) (s : S) → inside buffer [] s ≡ waiting buffer s
-  unfolding pieceOutcome pieceDest
-  inside-none buffer s =
-      rw (push-piece new (length buffer) (new-good (length buffer)) [], pushDest-piece new [] buffer (new-good (length buffer)))
+  unfolding pieceDest
+  inside-none buffer s = rw (push-none (length buffer), pushDest-piece new [] buffer (new-good (length buffer)))
 
   -- the front of one more says nothing and changes no state of the taker
   pub deliver-front : (buffer : List ℕ) (s : S) → Fine s → (p : List ℕ) → isMore (pushOutcome new (length buffer) p) ≡ true

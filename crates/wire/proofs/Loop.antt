@@ -235,7 +235,7 @@ module _ {S View : Type 0} (taker : Taker S View) (Fine : S → Type 0) (fit : (
       (λ e. rw e (bytes-good p (r .side) (received-good w g (b ∷ []))))
 
   -- bytes after bytes
-  bytes-append : (p q : List ℕ) (w : Side S) → Alike (byBytes w (p ++ q)) (andThen (byBytes w p) (λ k v. byBytes v q))
+  pub bytes-append : (p q : List ℕ) (w : Side S) → Alike (byBytes w (p ++ q)) (andThen (byBytes w p) (λ k v. byBytes v q))
   unfolding byBytes
   bytes-append [] q w = record { said = refl; side = refl }
   bytes-append (b ∷ p) q w =

@@ -50,7 +50,8 @@ module _ (b : Batch) (can : Sendable b) (n : ℕ) (slotted : count b * 16 ≤ n)
   frame-fits : (o : Batch) → Sendable o → (f : List Item) → Frame o f → (buffer : List ℕ) → length buffer ≡ room → length (message o f) ≤ length buffer
   frame-fits o x f g buffer lb = omega (arith, message-long o x f (g .ours), g .most)
 
-  pub mixed : (cs : List Came) → AllCame b cs → (l : List Item) → AllOf b l → (buffer : List ℕ) → length buffer ≡ room → (e : End) → Holding b can n slotted l (e .receiver) → Good (e .receiver) n → length (e .table) ≡ n
+  pub mixed : (cs : List Came) → AllCame b cs → (l : List Item) → AllOf b l → (buffer : List ℕ) → length buffer ≡ room
+      → (e : End) → Holding b can n slotted l (e .receiver) → Good (e .receiver) n → length (e .table) ≡ n
       → Left l cs e (over-bytes buffer e (bytesOf b cs ++ p))
   mixed [] g l a buffer lb e h q long =
       left-alike l [] e (deliver-front accepting Fine fit keeps answers buffer e (fine e q long) p (rw lb front))

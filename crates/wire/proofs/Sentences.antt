@@ -11,7 +11,7 @@ use Rattle.wire.proofs.Loop.{Good, taken-within, takes, received-none}
 use Rattle.wire.proofs.Accepting.{Fine, fit, keeps}
 
 module _ (w : Side End) where
-  good-of : NotBad w → Good accepting Fine fit keeps w
+  pub good-of : NotBad w → Good accepting Fine fit keeps w
   unfolding Fine
   good-of g = record { decoding = g .decoder; taking = batch.good (w .state .receiver) (length (w .state .table)) (g .words) (g .receiver) }
 

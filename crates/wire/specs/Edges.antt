@@ -1,18 +1,21 @@
--- Both ends of demand 3's range: the most of everything, and nothing at all. `proofs/Edges.antt` proves both records, so that no
--- premise can be narrowed unnoticed. Assumes nothing.
+-- Both ends of the range of demand 3, and of what may come among and before its frames: the most of everything, and nothing at all.
+-- `proofs/Edges.antt` proves each statement, so that no premise can be narrowed unnoticed. Assumes nothing.
 use mathlib.Core.Path.{_≡_}
 use mathlib.Core.List.{List, [], _∷_, _++_}
 use Prim.Native.Nat.{ℕ, zero, suc, _+_, _%_}
 use lib.IntN.{pos, negsuc}
 use lib.ListN.{length, take, drop, replicate}
-use Rattle.cobs.specs.Answers.{complete, stale, ahead}
+use Rattle.cobs.specs.Answers.{Told, invalidFrame, badLength, stale, ahead, stillOpen, complete}
 use Rattle.cobs.specs.Code.{encode}
+use Rattle.dec.specs.Stream.{skipping}
 use Rattle.wire.specs.Again.{Said}
-use Rattle.wire.specs.Loop.{framed}
-use Rattle.wire.specs.Receive.{Seen}
+use Rattle.wire.specs.Loop.{drive, framed}
+use Rattle.wire.specs.Receive.{Seen, accepting}
 use Rattle.wire.specs.Batch.{Particle, Batch, Item, particle, close, message, messages, expectedAll}
-use Rattle.wire.specs.Demand3.{Delivery, Premises, run}
+use Rattle.wire.specs.Demand3.{Delivery, Premises, hand, run}
 use Rattle.wire.specs.Among.{Came, ours, other, idle, Among, refusal, DeliveredAmong}
+use Rattle.wire.specs.Anew.{openedOn}
+use Rattle.wire.specs.Noise.{openedEarly}
 
 -- Complete, with so much weight of so many.
 abbrev pub completeWith : (total marked : ℕ) → Said Seen
@@ -97,19 +100,38 @@ pub record MostAmong : Type 0 where
 abbrev pub nobody : Batch
 nobody = record { number = 0; particles = [] }
 
--- Its close in a frame, in one piece; and no table.
+-- Its close in a frame.
+abbrev pub closing : List ℕ
+closing = framed (messages nobody ((close ∷ []) ∷ []))
+
+-- That frame in one piece, and no table.
+abbrev pub leastInto : (buffer : List ℕ) → Delivery
+leastInto buffer =
+    record { batch = nobody; frames = (close ∷ []) ∷ []; begun = []; pieces = closing ∷ []; buffer = buffer; table = []; handed = λ k t. t }
+
 abbrev pub least : Delivery
-least = record {
-  batch = nobody;
-  frames = (close ∷ []) ∷ [];
-  begun = [];
-  pieces = framed (messages nobody ((close ∷ []) ∷ [])) ∷ [];
-  buffer = replicate 240 0;
-  table = [];
-  handed = λ k t. t;
-}
+least = leastInto (replicate 240 0)
 
 -- The premises are met; and the close alone is answered Complete.
 pub record EmptyComplete : Type 0 where
   pub premises : Premises least
   pub answers : run least .said ≡ completeWith 0 0 ∷ []
+
+-- Opened once more on what it left, the same comes again: Complete.
+pub record CompleteAgain : Type 0 where
+  pub premises : Premises (leastInto (run least .side .buffer))
+  pub answers : drive accepting (hand least) 0 (openedOn (run least .side) least) (closing ∷ []) .said ≡ completeWith 0 0 ∷ []
+
+-- Noise: two bytes more of a frame that had no room, a frame of one byte, a short group and an idle zero.
+abbrev pub noise : List ℕ
+noise = 5 ∷ 17 ∷ 0 ∷ 2 ∷ 17 ∷ 0 ∷ 3 ∷ 17 ∷ 0 ∷ 0 ∷ []
+
+-- A refusal, while nothing has arrived.
+abbrev pub refusedWith : Told → Said Seen
+refusedWith t = record { answer = t; shown = record { total = 0; marked = 0; stands = stillOpen } }
+
+-- From a decoder that skips, in one piece with the frame: refused twice, then Complete.
+abbrev pub CompleteAfterNoise : Type 0
+CompleteAfterNoise =
+    drive accepting (hand least) 0 (openedEarly least skipping) ((noise ++ closing) ∷ []) .said
+    ≡ refusedWith badLength ∷ refusedWith (invalidFrame 1 0) ∷ completeWith 0 0 ∷ []

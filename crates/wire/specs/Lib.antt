@@ -8,4 +8,6 @@ pub mod Batch
 pub mod Demand3
 pub mod Afterwards
 pub mod Among
+pub mod Anew
+pub mod Noise
 pub mod Edges
