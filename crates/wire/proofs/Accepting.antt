@@ -1,21 +1,18 @@
 -- The receiver as what takes the frames: a good state stays good over any frame, its answer is never More, and neither its
 -- answer nor its state depends on the table's bytes. Assumes nothing.
-use mathlib.Core.Path.{_≡_, refl, sym, ap, _∙_}
+use mathlib.Core.Path.{_≡_, refl, sym, ap, ap₂, _∙_}
 use mathlib.Core.Logic.{_≢_}
 use mathlib.Core.Bool.{false}
 use mathlib.Core.List.{List}
 use Prim.Native.Nat.{ℕ, zero, suc, _/_, _≤_}
 use native.Mathlib.Omega.{arith}
-use lib.Dec.{eqb, ltb}
 use lib.ListN.{length, drop}
 use Rattle.cobs.specs.Answers.{more}
 use Rattle.record.specs.Frame.{isBadLength}
-use Rattle.batch.specs.State.{markedIn, isBad, standBy, standTold}
+use Rattle.batch.specs.State.{markedIn, isBad, standTold}
 use Rattle.batch.specs.Verdict.{verdict, after, stored}
 use Rattle.batch.specs.Frame.{told, Outcome, refused, taken, onVerdict, takeAll, outcome, outcomeTold, nextAfter, tableAfter, acceptTold, acceptNext, acceptTable}
 use Rattle.batch.specs.declared.Receiver.{Receiver}
-use Rattle.batch.specs.declared.Close.{Close}
-use Rattle.batch.specs.declared.Close.the-variants.{Not, Taken}
 use Rattle.batch.specs.declared.Answer.{Answer}
 use Rattle.batch.specs.declared.Answer.the-variants.{BadState, BadLength, BadRecord, Stale, Ahead, NoRoom, BeyondClose, Conflict, Open, Missing, Complete, Differs}
 use Rattle.batch.specs.declared.judge.Effect.{Effect}
@@ -24,6 +21,7 @@ use Rattle.batch.specs.declared.judge.Verdict.the-variants.{Take, Refuse}
 use Rattle.batch.proofs.Good.{Good, not-bad}
 use Rattle.batch.proofs.Kept.{accept-length, accept-good}
 use Rattle.batch.proofs.Effects.{stored-length}
+use Rattle.batch.proofs.Sentences.{stands-from, refused-unchanged}
 use Rattle.dec.proofs.Cases.{by-bool}
 use Rattle.wire.specs.Receive.{End, accepting}
 
@@ -42,12 +40,6 @@ keeps e f g =
     rw (accept-length (e .receiver) (e .table) f) (accept-good (e .receiver) (e .table) f (length (e .table)) g)
 
 -- ---- its answer is never More
-
--- how a batch stands is told from 15 on
-stands-from : (marked sum : ℕ) (c : Close) → 15 ≤ standBy marked sum c .number
-stands-from m s Not = omega arith
-stands-from m s (Taken count total) =
-    by-bool (ltb m count) (λ q. rw q (omega arith)) (λ q. by-bool (eqb s total) (λ p. rw (q, p) (omega arith)) (λ p. rw (q, p) (omega arith)))
 
 told-not-more : (a : Answer) → told a .number ≢ 14
 told-not-more BadState = λ e. omega arith
@@ -74,14 +66,9 @@ answers e f = outcome-not-more (outcome (e .receiver) (e .table) f)
 
 -- ---- a refusal changes nothing
 
-outcome-kept : (e : End) (o : Outcome) → outcomeTold o .number ≤ 13 → record { receiver = nextAfter (e .receiver) o; table = tableAfter (e .table) o } ≡ e
-unfolding standTold
-outcome-kept e (refused a) h = refl
-outcome-kept e (taken r t) h = absurd (omega (arith, stands-from (markedIn r) (r .total) (r .close)))
-
 pub kept : (e : End) (f : List ℕ) → accepting .says e f .number ≤ 13 → accepting .after e f ≡ e
-unfolding acceptTold acceptNext acceptTable
-kept e f = outcome-kept e (outcome (e .receiver) (e .table) f)
+kept e f h =
+    ap₂ (λ (r : Receiver) (t : List ℕ). record { receiver = r; table = t }) (refused-unchanged .state (e .receiver) (e .table) f h) (refused-unchanged .table (e .receiver) (e .table) f h)
 
 -- ---- blind to the table's bytes
 

@@ -1,6 +1,7 @@
 -- The receiving loop over any bytes, whatever takes the frames: where the bytes are cut changes no answer, state or byte.
 -- Assumes nothing.
 use mathlib.Core.Path.{_≡_, refl, sym, ap, ap₂, _∙_, subst}
+use mathlib.Core.Logic.{_≢_}
 use mathlib.Core.Bool.{true, false, true≢false}
 use mathlib.Core.List.{List, [], _∷_, _++_}
 use Prim.Native.Nat.{ℕ, zero, suc, _≤_, suc-le-suc, zero-le}
@@ -176,6 +177,17 @@ module _ {S View : Type 0} (taker : Taker S View) (Fine : S → Type 0) (fit : (
   pub received-none : (w : Side S) → Good w → received taker w [] ≡ record { side = w; answer = more; consumed = 0 }
   unfolding pieceOutcome pieceDest
   received-none w g = received-on w g []
+
+  -- what stands after the bytes it took is not looked at
+  pub received-short : (p q : List ℕ) (w : Side S) → Good w → received taker w p .answer .number ≢ more .number → received taker w (p ++ q) ≡ received taker w p
+  received-short [] q w g h = absurd (h (ap (λ (r : Received (Side S)). r .answer .number) (received-none w g)))
+  received-short (b ∷ p) q w g h =
+      by-bool (isMore (byteOutcome (w .decoder) (length (w .buffer)) b))
+      (λ e.
+      received-goes w g b (p ++ q) e
+      ∙ ap later (received-short p q (past w b) (past-good w g b) (rw (received-goes w g b p e) at h))
+      ∙ sym (received-goes w g b p e))
+      (λ e. received-stops w g b (p ++ q) e ∙ sym (received-stops w g b p e))
 
   -- a byte at which the piece goes on says nothing
   pub byBytes-goes : (w : Side S) → Good w → (b : ℕ) (p : List ℕ) → isMore (byteOutcome (w .decoder) (length (w .buffer)) b) ≡ true → byBytes w (b ∷ p) ≡ byBytes (past w b) p
