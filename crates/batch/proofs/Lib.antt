@@ -8,5 +8,6 @@ pub mod Taking
 pub mod Accepting
 pub mod Records
 pub mod Kept
+pub mod Sentences
 pub mod Order
 pub mod Unique

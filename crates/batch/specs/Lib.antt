@@ -2,5 +2,6 @@
 pub mod State
 pub mod Verdict
 pub mod Frame
+pub mod Sentences
 -- for the private functions
 pub mod Helpers

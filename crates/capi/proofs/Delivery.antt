@@ -102,7 +102,7 @@ module _ (ns : List ℕ) (d : Delivery) (p : Premises d) (c : Lends ns d) where
         numbers = rw (eq-eqb (length ns) 74 (c .long)) refl;
         buffer = refl;
         table = refl;
-        within = record { left = omega arith; total = omega arith; closed = omega arith; batch = p .numbered; words = good .words };
+        within = record { left = omega arith; total = omega arith; closed = omega arith; batch = p .sendable .numbered; words = good .words };
         bytes = c .buffer;
         good = record { decoding = new-good (length (d .buffer)); taking = good };
       }

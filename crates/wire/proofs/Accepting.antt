@@ -1,21 +1,18 @@
 -- The receiver as what takes the frames: a good state stays good over any frame, its answer is never More, and neither its
 -- answer nor its state depends on the table's bytes. Assumes nothing.
-use mathlib.Core.Path.{_≡_, refl, sym, ap, _∙_}
+use mathlib.Core.Path.{_≡_, refl, sym, ap, ap₂, _∙_}
 use mathlib.Core.Logic.{_≢_}
 use mathlib.Core.Bool.{false}
 use mathlib.Core.List.{List}
-use Prim.Native.Nat.{ℕ, zero, suc, _/_, _-_}
+use Prim.Native.Nat.{ℕ, zero, suc, _/_, _≤_}
 use native.Mathlib.Omega.{arith}
-use lib.Dec.{eqb, ltb}
 use lib.ListN.{length, drop}
-use Rattle.cobs.specs.Answers.{Told, more}
+use Rattle.cobs.specs.Answers.{more}
 use Rattle.record.specs.Frame.{isBadLength}
-use Rattle.batch.specs.State.{markedIn, isBad, standBy, standTold}
+use Rattle.batch.specs.State.{markedIn, isBad, standTold}
 use Rattle.batch.specs.Verdict.{verdict, after, stored}
 use Rattle.batch.specs.Frame.{told, Outcome, refused, taken, onVerdict, takeAll, outcome, outcomeTold, nextAfter, tableAfter, acceptTold, acceptNext, acceptTable}
 use Rattle.batch.specs.declared.Receiver.{Receiver}
-use Rattle.batch.specs.declared.Close.{Close}
-use Rattle.batch.specs.declared.Close.the-variants.{Not, Taken}
 use Rattle.batch.specs.declared.Answer.{Answer}
 use Rattle.batch.specs.declared.Answer.the-variants.{BadState, BadLength, BadRecord, Stale, Ahead, NoRoom, BeyondClose, Conflict, Open, Missing, Complete, Differs}
 use Rattle.batch.specs.declared.judge.Effect.{Effect}
@@ -24,6 +21,7 @@ use Rattle.batch.specs.declared.judge.Verdict.the-variants.{Take, Refuse}
 use Rattle.batch.proofs.Good.{Good, not-bad}
 use Rattle.batch.proofs.Kept.{accept-length, accept-good}
 use Rattle.batch.proofs.Effects.{stored-length}
+use Rattle.batch.proofs.Sentences.{stands-from, refused-unchanged}
 use Rattle.dec.proofs.Cases.{by-bool}
 use Rattle.wire.specs.Receive.{End, accepting}
 
@@ -43,14 +41,6 @@ keeps e f g =
 
 -- ---- its answer is never More
 
-not-more : (t : Told) → t .number ≢ 14 → t .number ≢ more .number
-not-more t h = h
-
-stands-not-more : (marked sum : ℕ) (c : Close) → standBy marked sum c .number ≢ 14
-stands-not-more m s Not = λ e. omega arith
-stands-not-more m s (Taken count total) =
-    by-bool (ltb m count) (λ q. rw q (λ e. omega arith)) (λ q. by-bool (eqb s total) (λ p. rw (q, p) (λ e. omega arith)) (λ p. rw (q, p) (λ e. omega arith)))
-
 told-not-more : (a : Answer) → told a .number ≢ 14
 told-not-more BadState = λ e. omega arith
 told-not-more BadLength = λ e. omega arith
@@ -68,11 +58,17 @@ told-not-more Differs = λ e. omega arith
 outcome-not-more : (o : Outcome) → outcomeTold o .number ≢ 14
 unfolding standTold
 outcome-not-more (refused a) = told-not-more a
-outcome-not-more (taken r t) = stands-not-more (markedIn r) (r .total) (r .close)
+outcome-not-more (taken r t) = λ e. omega (arith, stands-from (markedIn r) (r .total) (r .close))
 
 pub answers : (e : End) (f : List ℕ) → accepting .says e f .number ≢ more .number
 unfolding acceptTold
 answers e f = outcome-not-more (outcome (e .receiver) (e .table) f)
+
+-- ---- a refusal changes nothing
+
+pub kept : (e : End) (f : List ℕ) → accepting .says e f .number ≤ 13 → accepting .after e f ≡ e
+kept e f h =
+    ap₂ (λ (r : Receiver) (t : List ℕ). record { receiver = r; table = t }) (refused-unchanged .state (e .receiver) (e .table) f h) (refused-unchanged .table (e .receiver) (e .table) f h)
 
 -- ---- blind to the table's bytes
 

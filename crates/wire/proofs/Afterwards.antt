@@ -5,44 +5,41 @@ use mathlib.Core.Bool.{Bool, true, false, _&&_, _||_, true≢false, or-assoc}
 use mathlib.Core.List.{List, [], _∷_, _++_}
 use Prim.Native.Nat.{ℕ}
 use lib.Dec.{eqb}
+use lib.ListN.{length}
 use borrow.Author.Tests.{eqb-true}
 use Rattle.cobs.specs.Words.{if_then_else_}
 use Rattle.dec.proofs.Cases.{by-bool}
 use Rattle.batch.specs.declared.Receiver.{Receiver}
-use Rattle.wire.specs.Loop.{drive}
-use Rattle.wire.specs.Receive.{End, accepting}
+use Rattle.batch.proofs.Good.{open-good}
+use Rattle.wire.specs.Receive.{End}
 use Rattle.wire.specs.Batch.{Batch, count, weightAt, Item, particle, close, has, arrivedTotal}
-use Rattle.wire.specs.Demand3.{Delivery, Premises, started, hand, run}
+use Rattle.wire.specs.Demand3.{Delivery, Premises, started}
 use Rattle.wire.specs.Afterwards.{items, receiverAfter, tableAfter, LeftAlone, Slots, sameItem, sameFrame, isAmong, firsts, withoutRepeats}
-use Rattle.wire.proofs.Hands.{drive-same}
 use Rattle.wire.proofs.Sums.{sum-same}
 use Rattle.wire.proofs.Filled.{none-filled}
-use Rattle.wire.proofs.Demand3.{alone, unseen, frames-delivered, whole-course}
+use Rattle.wire.proofs.Arrived.{open-held}
+use Rattle.wire.proofs.Receiving.{Course, course}
+use Rattle.wire.proofs.Among.{receiver-after, end-after}
 
 module _ (d : Delivery) (p : Premises d) where
+  whole-course : Course (d .batch) (p .sendable) (length (d .table)) (p .slots) [] (d .frames) (started d .state)
+  whole-course =
+      let h = open-held (d .batch) (p .sendable) (length (d .table)) (p .slots) in
+      let q = open-good (d .batch .number) (length (d .table)) in
+      course (d .batch) (p .sendable) (length (d .table)) (p .slots) (d .frames) (p .framing) [] tt (started d .state) h q refl
+
   -- ---- the total
 
   pub total-after : receiverAfter d .total ≡ arrivedTotal (d .batch) (items (d .frames))
-  total-after =
-      ap (λ (r : Receiver). r .total) (unseen d p .sides .states .receivers ∙ ap (λ (e : End). e .receiver) (frames-delivered d p .1))
-      ∙ whole-course d p .holds .total
+  total-after = ap (λ (r : Receiver). r .total) (receiver-after d p) ∙ whole-course .holds .total
 
   -- ---- the slots
 
-  module _ (left : LeftAlone d) where
-    handed-same : (k : ℕ) (s t : End) → s ≡ t → hand d k s ≡ alone d p k t
-    handed-same k s t e = ap (λ (x : List ℕ). record { receiver = s .receiver; table = x }) (left k (s .table)) ∙ e
-
-    end-after : run d .side .state ≡ drive accepting (alone d p) 0 (started d) (d .pieces) .side .state
-    end-after =
-        drive-same accepting _≡_ (λ s t e. ap (accepting .isBad) e) (λ s t e f. ap (λ (x : End). accepting .says x f) e) (λ s t e f. ap (λ (x : End). accepting .after x f) e) (λ s t e. ap (accepting .shows) e) (hand d) (alone d p) handed-same (d .pieces) 0 (started d) (started d)
-        (record { decoders = refl; buffers = refl; states = refl }) .sides .states
-
-    pub slots-after : Slots d
-    slots-after =
-        let f = whole-course d p .fills (d .table) (none-filled (d .batch) (d .table)) in
-        let e : tableAfter d ≡ _ = ap (λ (x : End). x .table) (end-after ∙ frames-delivered d p .1) in
-        record { arrived = λ i h. rw e (f .arrived i h); others = λ i h. rw e (f .others i h) }
+  pub slots-after : LeftAlone d → Slots d
+  slots-after untouched =
+      let f = whole-course .fills (d .table) (none-filled (d .batch) (d .table)) in
+      let e : tableAfter d ≡ _ = ap (λ (x : End). x .table) (end-after d p untouched) in
+      record { arrived = λ i h. rw e (f .arrived i h); others = λ i h. rw e (f .others i h) }
 
 -- ---- a list of frames, and the same list without its repeats
 

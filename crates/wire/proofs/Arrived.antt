@@ -3,7 +3,7 @@
 use mathlib.Core.Path.{_≡_, refl, sym, ap, ap₂, _∙_}
 use mathlib.Core.Bool.{Bool, true, false}
 use mathlib.Core.List.{List, [], _∷_, _++_}
-use Prim.Native.Nat.{ℕ, _+_, _-_, _*_, _/_, _≤_, _<_, min}
+use Prim.Native.Nat.{ℕ, _+_, _*_, _/_, _≤_, _<_, min}
 use native.Mathlib.Nat.{le-refl}
 use native.Mathlib.Decide.{ℕ-discrete}
 use native.Mathlib.Omega.{arith}
@@ -28,28 +28,28 @@ use Rattle.batch.specs.declared.judge.Effect.the-variants as effect
 use Rattle.batch.specs.declared.judge.Verdict.the-variants.{Take}
 use Rattle.dec.proofs.Cases.{by-bool}
 use Rattle.wire.specs.Batch as wire
-use Rattle.wire.specs.Batch.{Batch, count, particleAt, weightAt, total, InRange, Item, recordOf, IsOf, AllOf, has, hasClose, arrivedTotal}
+use Rattle.wire.specs.Batch.{Batch, count, particleAt, weightAt, total, Sendable, Item, recordOf, IsOf, AllOf, has, hasClose, arrivedTotal}
 use Rattle.wire.proofs.Filled.{Filled, filled-again, filled-new, filled-close}
 use Rattle.wire.proofs.Sums.{sum-same, sum-new, sum-zero, sum-most, has-itself, has-other, has-again, has-close, has-none, hasClose-particle, hasClose-close}
 
 -- ---- the batch's records are valid, and read back
 
-module _ (b : Batch) (numbered : b .number < 65536) (few : count b ≤ 4096) (ranges : (i : ℕ) → i < count b → InRange (particleAt b i)) where
+module _ (b : Batch) (can : Sendable b) where
   total-small : total b < 4294967296
   total-small =
-      let m : total b ≤ count b * 1000000 = sum-most (weightAt b) 1000000 (count b) (λ j k. ranges j k .light) in
+      let m : total b ≤ count b * 1000000 = sum-most (weightAt b) 1000000 (count b) (λ j k. omega (arith, can .ranges j k .light)) in
       omega arith
 
   holds : (item : Item) → IsOf b item → Holds (recordOf b item)
   holds (wire.particle i) h =
-      let r = ranges i h in
-      particle (b .number) i (particleAt b i .x) (particleAt b i .y) (particleAt b i .z) (weightAt b i) numbered (omega arith) (r .x16) (r .y16) (r .z16) (omega (arith, r .light))
-  holds wire.close h = close (b .number) (count b) (total b) numbered (omega arith) total-small
+      let r = can .ranges i h in
+      particle (b .number) i (particleAt b i .x) (particleAt b i .y) (particleAt b i .z) (weightAt b i) (omega arith) (omega arith) (r .x16) (r .y16) (r .z16) (omega (arith, r .light))
+  holds wire.close h = close (b .number) (count b) (total b) (omega arith) (omega arith) total-small
 
   valid : (item : Item) → IsOf b item → isValid 0 (fieldsFor 0 (recordOf b item)) ≡ true
   unfolding isValid fieldsFor
-  valid (wire.particle i) h = rw (le-leb (weightAt b i) 1000000 (ranges i h .light))
-  valid wire.close h = rw (le-leb (count b) 4096 few)
+  valid (wire.particle i) h = rw (le-leb (weightAt b i) 1000000 (omega (arith, can .ranges i h .light)))
+  valid wire.close h = rw (le-leb (count b) 4096 (omega arith))
 
   pub written : (item : Item) → IsOf b item → writeTold 0 (recordOf b item) ≡ done 0 0
   unfolding writeTold
@@ -104,8 +104,8 @@ module _ (b : Batch) (numbered : b .number < 65536) (few : count b ≤ 4096) (ra
       judged : (k : ℕ) (t : List ℕ) (item : Item) → IsOf b item → (s : List ℕ)
           → verdict k r t (writtenBytes 0 (recordOf b item) ++ s) ≡ onOurs k r (recordOf b item)
       unfolding verdict onRead
-      judged k t (wire.particle i) q s = rw (reads (wire.particle i) q s, h .batch, class-same (b .number) numbered)
-      judged k t wire.close q s = rw (reads wire.close q s, h .batch, class-same (b .number) numbered)
+      judged k t (wire.particle i) q s = rw (reads (wire.particle i) q s, h .batch, class-same (b .number) (omega arith))
+      judged k t wire.close q s = rw (reads wire.close q s, h .batch, class-same (b .number) (omega arith))
 
       -- weights of the items that arrived, where what has arrived is the same
       same-total : (m : List Item) → ((j : ℕ) → has j m ≡ has j l) → arrivedTotal b m ≡ arrivedTotal b l
@@ -181,7 +181,7 @@ module _ (b : Batch) (numbered : b .number < 65536) (few : count b ≤ 4096) (ra
           })
 
       no-mark-above : AllOf b l → markedIn r ≤ markedBelow (r .marks) (count b)
-      no-mark-above a = from-none (r .marks) (count b) 4096 few (λ j low high. h .marks j ∙ has-none b l a j low)
+      no-mark-above a = from-none (r .marks) (count b) 4096 (omega arith) (λ j low high. h .marks j ∙ has-none b l a j low)
 
       takes-close : (k : ℕ) (t : List ℕ) → AllOf b l → (s : List ℕ) → Took k t wire.close s
       unfolding onClose after stored

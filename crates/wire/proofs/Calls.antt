@@ -22,7 +22,7 @@ use Rattle.dec.specs.declared.stream.PushAnswer.the-variants as push
 use Rattle.dec.specs.declared.stream.Pushed.{Pushed}
 use Rattle.dec.proofs.Cases.{by-bool}
 use Rattle.dec.proofs.Good.{Good, good-of, good-byte}
-use Rattle.dec.proofs.Pieces.{length-piece, piece-goes, piece-stops, byte-goes, further-keeps, further-counts, push-piece}
+use Rattle.dec.proofs.Pieces.{piece-goes, piece-stops, byte-goes, further-keeps, further-counts, push-piece}
 use Rattle.batch.specs.State.{isBad, toldStanding, standBy, standTold, standsTold}
 use Rattle.batch.specs.Frame.{acceptTold, acceptNext, acceptTable}
 use Rattle.batch.specs.declared.Receiver.{Receiver}
@@ -37,6 +37,7 @@ use Rattle.wire.specs.declared.Wire.{Wire}
 use Rattle.wire.specs.declared.Receipt.{Receipt}
 use Rattle.wire.specs.declared.Received.{Received}
 use Rattle.wire.specs.declared.Received.the-variants as says
+use Rattle.wire.proofs.Loop.{length-push}
 
 -- ---- the receiver's BadState
 
@@ -76,10 +77,6 @@ push-then : (w : Wire) (buffer table piece : List ℕ) → isBad (w .receiver) (
     ≡ handOn accepting (pushOutcome (w .decoder) (length buffer) piece) (pushDest (w .decoder) piece buffer) (record { receiver = w .receiver; table = table }) piece
 unfolding received pushOutcome pushDest
 push-then w buffer table piece g = rw g (by-bool (bad (w .decoder) (length buffer)) (λ q. rw q) (λ q. rw q))
-
-length-push : (d : CobsDecoder) (p m : List ℕ) → length (pushDest d p m) ≡ length m
-unfolding pushDest
-length-push d p m = by-bool (bad d (length m)) (λ q. rw q) (λ q. rw q (length-piece p d (length m) m))
 
 -- ---- a frame's size fits the room
 

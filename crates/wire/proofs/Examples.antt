@@ -72,9 +72,7 @@ rejoined s =
 met : (fs : List (List Item)) → Frames two fs → Premises (delivery fs)
 unfolding two delivery
 met fs h = record {
-  numbered = omega arith;
-  few = omega arith;
-  ranges = ranged;
+  sendable = record { numbered = omega arith; few = omega arith; ranges = ranged };
   framing = h;
   begins = record { frame = close ∷ []; framing = record { some = omega arith; most = omega arith; ours = (tt, tt) }; later = encode (message two (close ∷ [])); front = refl };
   cut = rejoined (framed (messages two fs));

@@ -1,13 +1,12 @@
 -- What a caller does to the taker's state between calls, where the taker does not see it, changes no answer.
 -- Assumes nothing.
-use mathlib.Core.Path.{_≡_, refl, ap, ap₂}
+use mathlib.Core.Path.{_≡_, refl}
 use mathlib.Core.Bool.{_||_}
-use mathlib.Core.List.{List, [], _∷_, _++_}
-use Prim.Native.Nat.{ℕ, zero, suc, _+_}
-use lib.Dec.{eqb}
-use lib.ListN.{length, take, drop}
-use Rattle.cobs.specs.Answers.{Told, more, isDone}
-use Rattle.dec.specs.Stream.{Outcome, goes, bad, pushOutcome, pushDest}
+use mathlib.Core.List.{List, [], _∷_}
+use Prim.Native.Nat.{ℕ}
+use lib.ListN.{length, take}
+use Rattle.cobs.specs.Answers.{isDone}
+use Rattle.dec.specs.Stream.{Outcome, bad, pushOutcome, pushDest}
 use Rattle.dec.specs.declared.stream.CobsDecoder.{CobsDecoder}
 use Rattle.dec.proofs.Cases.{by-bool}
 use Rattle.wire.specs.Loop.{Side, Taker, handOn, received, called, seen, drive}

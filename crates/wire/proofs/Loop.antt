@@ -1,16 +1,17 @@
 -- The receiving loop over any bytes, whatever takes the frames: where the bytes are cut changes no answer, state or byte.
 -- Assumes nothing.
 use mathlib.Core.Path.{_≡_, refl, sym, ap, ap₂, _∙_, subst}
+use mathlib.Core.Logic.{_≢_}
 use mathlib.Core.Bool.{true, false, true≢false}
 use mathlib.Core.List.{List, [], _∷_, _++_}
-use Prim.Native.Nat.{ℕ, zero, suc, _+_, _≤_, suc-le-suc, zero-le}
+use Prim.Native.Nat.{ℕ, zero, suc, _≤_, suc-le-suc, zero-le}
 use native.Mathlib.Nat.{not-suc-le-zero, le-of-suc-le-suc, le-refl}
 use native.Mathlib.Omega.{arith}
 use lib.Dec.{eqb, ltb}
 use lib.ListN.{length, take, drop, length-drop}
 use Rattle.cobs.specs.Answers.{Told, more, isDone}
 use Rattle.dec.specs.State.{stepped}
-use Rattle.dec.specs.Stream.{Outcome, isMore, bad, resultOutcome, byteOutcome, byteDest, further, pieceOutcome, pieceDest}
+use Rattle.dec.specs.Stream.{Outcome, isMore, bad, resultOutcome, byteOutcome, byteDest, further, pieceOutcome, pieceDest, pushDest}
 use Rattle.dec.specs.declared.state.DecoderState.{DecoderState}
 use Rattle.dec.specs.declared.state.DecodeResult.{DecodeResult}
 use Rattle.dec.specs.declared.state.DecodeResult.the-variants.{NoData, DataStart, DataComplete, DataContinue, InvalidFrame}
@@ -18,6 +19,7 @@ use Rattle.dec.specs.declared.stream.CobsDecoder.{CobsDecoder}
 use Rattle.dec.proofs.Cases.{by-bool}
 use Rattle.dec.proofs.Good.{good-of, of-good, good-byte, push-good}
 use Rattle.dec.proofs.Pieces.{length-byte, length-piece, piece-goes, piece-stops, dest-goes, dest-stops, byte-goes, further-keeps, further-counts, push-piece, pushDest-piece}
+use Rattle.dec.proofs.Restart.{used-within}
 use Rattle.wire.specs.Again as again
 use Rattle.wire.specs.Again.{Received, Said, Run, stopped, heard, andThen, joined}
 use Rattle.wire.specs.Loop.{Side, Taker, handOn, received, called, seen, run, drive}
@@ -37,6 +39,19 @@ byte-one : (d : CobsDecoder) (room b : ℕ) → isMore (byteOutcome d room b) �
 unfolding byteOutcome
 byte-one d room b =
     by-bool (d .skip) (λ q. rw q (λ e. absurd (true≢false e))) (λ q. rw q (result-one (d .place) room (stepped (d .state) b .state) (stepped (d .state) b .result)))
+
+pub length-push : (d : CobsDecoder) (p m : List ℕ) → length (pushDest d p m) ≡ length m
+unfolding pushDest
+length-push d p m = by-bool (bad d (length m)) (λ q. rw q) (λ q. rw q (length-piece p d (length m) m))
+
+-- A call takes no more than its piece, from any states.
+pub taken-within : {S View : Type 0} (taker : Taker S View) (w : Side S) (p : List ℕ) → received taker w p .consumed ≤ length p
+unfolding received
+taken-within taker w p =
+    by-bool (bad (w .decoder) (length (w .buffer))) (λ q. rw q zero-le)
+    (λ q.
+    by-bool (taker .isBad (w .state)) (λ t. rw (q, t) zero-le)
+    (λ t. rw (q, t, push-piece (w .decoder) (length (w .buffer)) q p) (used-within p (w .decoder) (length (w .buffer)))))
 
 module _ {S View : Type 0} (taker : Taker S View) (Fine : S → Type 0) (fit : (s : S) → Fine s → taker .isBad s ≡ false)
     (keeps : (s : S) (f : List ℕ) → Fine s → Fine (taker .after s f)) where
@@ -112,7 +127,7 @@ module _ {S View : Type 0} (taker : Taker S View) (Fine : S → Type 0) (fit : (
         rw (received-on w g (b ∷ p), piece-stops (w .decoder) (length (w .buffer)) b p e, e) (byte-one (w .decoder) (length (w .buffer)) b e)
 
     -- a call takes a byte or more
-    takes : 1 ≤ received taker w (b ∷ p) .consumed
+    pub takes : 1 ≤ received taker w (b ∷ p) .consumed
     takes =
         by-bool (isMore o) (λ e. rw (received-goes e) (suc-le-suc zero-le)) (λ e. rw (received-one e) (le-refl 1))
 
@@ -159,12 +174,23 @@ module _ {S View : Type 0} (taker : Taker S View) (Fine : S → Type 0) (fit : (
       (λ e. rw e (record { said = ap (λ (l : List (Said View)). record { answer = t; shown = v } ∷ l) (a .said); side = a .side }))
 
   -- no byte: nothing
-  received-none : (w : Side S) → Good w → received taker w [] ≡ record { side = w; answer = more; consumed = 0 }
+  pub received-none : (w : Side S) → Good w → received taker w [] ≡ record { side = w; answer = more; consumed = 0 }
   unfolding pieceOutcome pieceDest
   received-none w g = received-on w g []
 
+  -- what stands after the bytes it took is not looked at
+  pub received-short : (p q : List ℕ) (w : Side S) → Good w → received taker w p .answer .number ≢ more .number → received taker w (p ++ q) ≡ received taker w p
+  received-short [] q w g h = absurd (h (ap (λ (r : Received (Side S)). r .answer .number) (received-none w g)))
+  received-short (b ∷ p) q w g h =
+      by-bool (isMore (byteOutcome (w .decoder) (length (w .buffer)) b))
+      (λ e.
+      received-goes w g b (p ++ q) e
+      ∙ ap later (received-short p q (past w b) (past-good w g b) (rw (received-goes w g b p e) at h))
+      ∙ sym (received-goes w g b p e))
+      (λ e. received-stops w g b (p ++ q) e ∙ sym (received-stops w g b p e))
+
   -- a byte at which the piece goes on says nothing
-  byBytes-goes : (w : Side S) → Good w → (b : ℕ) (p : List ℕ) → isMore (byteOutcome (w .decoder) (length (w .buffer)) b) ≡ true → byBytes w (b ∷ p) ≡ byBytes (past w b) p
+  pub byBytes-goes : (w : Side S) → Good w → (b : ℕ) (p : List ℕ) → isMore (byteOutcome (w .decoder) (length (w .buffer)) b) ≡ true → byBytes w (b ∷ p) ≡ byBytes (past w b) p
   unfolding byBytes
   byBytes-goes w g b p e = rw (received-goes w g b [] e, received-none (past w b) (past-good w g b))
 
@@ -221,7 +247,7 @@ module _ {S View : Type 0} (taker : Taker S View) (Fine : S → Type 0) (fit : (
       (λ e. rw e (bytes-good p (r .side) (received-good w g (b ∷ []))))
 
   -- bytes after bytes
-  bytes-append : (p q : List ℕ) (w : Side S) → Alike (byBytes w (p ++ q)) (andThen (byBytes w p) (λ k v. byBytes v q))
+  pub bytes-append : (p q : List ℕ) (w : Side S) → Alike (byBytes w (p ++ q)) (andThen (byBytes w p) (λ k v. byBytes v q))
   unfolding byBytes
   bytes-append [] q w = record { said = refl; side = refl }
   bytes-append (b ∷ p) q w =

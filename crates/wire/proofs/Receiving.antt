@@ -1,9 +1,9 @@
 -- The receiver over frames of one batch: each is taken whole, and what it then answers and shows is what is due.
 -- Assumes nothing.
-use mathlib.Core.Path.{_≡_, refl, sym, ap, ap₂, _∙_, subst}
+use mathlib.Core.Path.{_≡_, refl, sym, ap, _∙_, subst}
 use mathlib.Core.Bool.{false}
 use mathlib.Core.List.{List, [], _∷_, _++_, append-assoc, append-nil}
-use Prim.Native.Nat.{ℕ, suc, _+_, _-_, _*_, _/_, _%_, _≤_, _<_}
+use Prim.Native.Nat.{ℕ, suc, _+_, _-_, _*_, _/_, _%_, _≤_}
 use native.Mathlib.Nat.{suc-mul}
 use native.Mathlib.Omega.{arith}
 use lib.Dec.{ltb}
@@ -11,22 +11,20 @@ use lib.ListN.{length, length-append}
 use lib.Seq.{drop-at}
 use borrow.Author.Tests.{eq-eqb, ne-eqb, le-ltb, ltb-false}
 use Rattle.cobs.specs.Words.{if_then_else_}
-use Rattle.cobs.specs.Answers.{Told}
 use Rattle.marks.specs.Marks.{marked, markedBelow, countBelow}
 use Rattle.marks.proofs.Counts.{count-same, count-add, count-both, count-none, all-counted}
 use Rattle.record.specs.Record.{writtenBytes}
 use Rattle.record.specs.Frame.{isBadLength}
 use Rattle.batch.specs.State.{markedIn, standTold, standsTold}
-use Rattle.batch.specs.Verdict.{verdict, after, stored}
+use Rattle.batch.specs.Verdict.{after, stored}
 use Rattle.batch.specs.Frame.{taken, takeAll, outcome, acceptTold, acceptNext, acceptTable}
 use Rattle.batch.specs.declared.Receiver.{Receiver}
 use Rattle.batch.proofs.Good.{Good, not-bad, good-all}
 use Rattle.batch.proofs.Effects.{stored-length}
 use Rattle.dec.proofs.Cases.{by-bool}
-use Rattle.wire.specs.Receive.{End, Seen, accepting}
-use Rattle.wire.specs.Batch.{Batch, count, particleAt, weightAt, total, InRange, Item, recordOf, message, AllOf, Frame, Frames, messages, has, hasClose, arrivedCount, arrivedTotal, due, expected, expectedAll}
+use Rattle.wire.specs.Receive.{End, accepting}
+use Rattle.wire.specs.Batch.{Batch, count, weightAt, total, Sendable, Item, recordOf, message, AllOf, Frame, Frames, messages, has, hasClose, arrivedCount, arrivedTotal, due, expected}
 use Rattle.wire.specs.Afterwards.{items}
-use Rattle.wire.proofs.Frames.{saidTo, afterAll}
 use Rattle.wire.proofs.Sums.{sum-same, has-none, all-of-append}
 use Rattle.wire.proofs.Filled.{Filled}
 use Rattle.wire.proofs.Arrived.{Held, takes, record-long}
@@ -36,7 +34,12 @@ unfolding isBadLength
 good-length m some most =
     rw (ne-eqb (m * 16) 0 (λ e. omega arith), le-ltb 240 (m * 16) (omega arith), eq-eqb (m * 16 % 16) 0 (omega arith))
 
-module _ (b : Batch) (numbered : b .number < 65536) (few : count b ≤ 4096) (ranges : (i : ℕ) → i < count b → InRange (particleAt b i)) where
+-- the receiver and its table after these frames
+abbrev pub afterAll : End → (messages : List (List ℕ)) → End
+afterAll e [] = e
+afterAll e (m ∷ ms) = afterAll (accepting .after e m) ms
+
+module _ (b : Batch) (can : Sendable b) where
   -- ---- the bytes of a frame
 
   pub message-long : (f : List Item) → AllOf b f → length (message b f) ≡ length f * 16
@@ -44,11 +47,11 @@ module _ (b : Batch) (numbered : b .number < 65536) (few : count b ≤ 4096) (ra
   message-long [] h = refl
   message-long (item ∷ f) h =
       length-append (writtenBytes 0 (recordOf b item)) (message b f)
-      ∙ omega (arith, record-long b numbered few ranges item (h .0), message-long f (h .1), suc-mul (length f) 16)
+      ∙ omega (arith, record-long b can item (h .0), message-long f (h .1), suc-mul (length f) 16)
 
   module _ (n : ℕ) (slotted : count b * 16 ≤ n) where
-    abbrev Holding : List Item → Receiver → Type 0
-    Holding = Held b numbered few ranges n
+    abbrev pub Holding : List Item → Receiver → Type 0
+    Holding = Held b can n
 
     -- ---- a frame's records, one after another
 
@@ -72,12 +75,12 @@ module _ (b : Batch) (numbered : b .number < 65536) (few : count b ≤ 4096) (ra
     }
     take-all (item ∷ f) a k l c r h t =
         let s : List ℕ = writtenBytes 0 (recordOf b item) ++ message b f in
-        let o = takes b numbered few ranges n slotted l r h k t item (a .0) c (message b f) in
+        let o = takes b can n slotted l r h k t item (a .0) c (message b f) in
         let go = take-all f (a .1) (suc k) (l ++ item ∷ []) (all-of-append b l (item ∷ []) c (a .0, tt)) (after (o .effect) r) (o .held) (stored (o .effect) t s) in
         record {
           receiver = go .receiver;
           table = go .table;
-          took = rw (o .verdict, drop-at (writtenBytes 0 (recordOf b item)) (message b f) 16 (record-long b numbered few ranges item (a .0))) (go .took);
+          took = rw (o .verdict, drop-at (writtenBytes 0 (recordOf b item)) (message b f) 16 (record-long b can item (a .0))) (go .took);
           holds = subst (λ (x : List Item). Holding x (go .receiver)) (append-assoc l (item ∷ []) f) (go .holds);
           long = go .long ∙ stored-length (o .effect) t s;
           fills = λ t₀ m g.
@@ -119,15 +122,21 @@ module _ (b : Batch) (numbered : b .number < 65536) (few : count b ≤ 4096) (ra
     unfolding standsTold
     stands-good r g = rw (not-bad r n g)
 
-    record Accepts (l f : List Item) (e : End) : Type 0 where
-      says : accepting .says e (message b f) ≡ due b (l ++ f)
-      shows : accepting .shows (accepting .after e (message b f)) ≡ expected b (l ++ f) .shown
-      holds : Holding (l ++ f) (accepting .after e (message b f) .receiver)
-      good : Good (accepting .after e (message b f) .receiver) n
-      long : length (accepting .after e (message b f) .table) ≡ n
-      fills : (t₀ : List ℕ) → Filled b t₀ l (e .table) → Filled b t₀ (l ++ f) (accepting .after e (message b f) .table)
+    -- what is seen of a receiver that holds these
+    pub shows-held : (l : List Item) → AllOf b l → (e : End) → Holding l (e .receiver) → Good (e .receiver) n → length (e .table) ≡ n
+        → accepting .shows e ≡ expected b l .shown
+    shows-held l a e h q long =
+        rw (long, stands-good (e .receiver) q, stands-due l a (e .receiver) h, marked-count l a (e .receiver) h, h .total)
 
-    accepts : (l : List Item) → AllOf b l → (f : List Item) → Frame b f → (e : End) → Holding l (e .receiver) → Good (e .receiver) n → length (e .table) ≡ n → Accepts l f e
+    pub record Accepts (l f : List Item) (e : End) : Type 0 where
+      pub says : accepting .says e (message b f) ≡ due b (l ++ f)
+      pub shows : accepting .shows (accepting .after e (message b f)) ≡ expected b (l ++ f) .shown
+      pub holds : Holding (l ++ f) (accepting .after e (message b f) .receiver)
+      pub good : Good (accepting .after e (message b f) .receiver) n
+      pub long : length (accepting .after e (message b f) .table) ≡ n
+      pub fills : (t₀ : List ℕ) → Filled b t₀ l (e .table) → Filled b t₀ (l ++ f) (accepting .after e (message b f) .table)
+
+    pub accepts : (l : List Item) → AllOf b l → (f : List Item) → Frame b f → (e : End) → Holding l (e .receiver) → Good (e .receiver) n → length (e .table) ≡ n → Accepts l f e
     unfolding outcome acceptTold acceptNext acceptTable
     accepts l a f g e h q long =
         let m : length (message b f) ≡ length f * 16 = message-long f (g .ours) in
@@ -140,25 +149,22 @@ module _ (b : Batch) (numbered : b .number < 65536) (few : count b ≤ 4096) (ra
         let d : standTold (t .receiver) ≡ due b (l ++ f) = stands-due (l ++ f) all (t .receiver) (t .holds) in
         record {
           says = rw o d;
-          shows =
-              rw (o, t .holds .total, marked-count (l ++ f) all (t .receiver) (t .holds), t .long, long, stands-good (t .receiver) k, d);
+          shows = rw o (shows-held (l ++ f) all (record { receiver = t .receiver; table = t .table }) (t .holds) k (t .long ∙ long));
           holds = rw o (t .holds);
           good = rw o k;
           long = rw o (t .long ∙ long);
           fills = λ t₀ x. rw o (t .fills t₀ long x);
         }
 
-    -- ---- frame after frame: what is said to each, and what is left of them all
+    -- ---- frame after frame: what is left of them all
 
     pub record Course (l : List Item) (fs : List (List Item)) (e : End) : Type 0 where
-      pub says : saidTo accepting e (messages b fs) ≡ expectedAll b l fs
-      pub holds : Holding (l ++ items fs) (afterAll accepting e (messages b fs) .receiver)
-      pub fills : (t₀ : List ℕ) → Filled b t₀ l (e .table) → Filled b t₀ (l ++ items fs) (afterAll accepting e (messages b fs) .table)
+      pub holds : Holding (l ++ items fs) (afterAll e (messages b fs) .receiver)
+      pub fills : (t₀ : List ℕ) → Filled b t₀ l (e .table) → Filled b t₀ (l ++ items fs) (afterAll e (messages b fs) .table)
 
     pub course : (fs : List (List Item)) → Frames b fs → (l : List Item) → AllOf b l → (e : End) → Holding l (e .receiver) → Good (e .receiver) n → length (e .table) ≡ n
         → Course l fs e
     course [] g l a e h q long = record {
-      says = refl;
       holds = rw (append-nil l) h;
       fills = λ t₀ x. rw (append-nil l) x;
     }
@@ -166,7 +172,6 @@ module _ (b : Batch) (numbered : b .number < 65536) (few : count b ≤ 4096) (ra
         let c = accepts l a f (g .0) e h q long in
         let go = course fs (g .1) (l ++ f) (all-of-append b l f a (g .0 .ours)) (accepting .after e (message b f)) (c .holds) (c .good) (c .long) in
         record {
-          says = ap₂ _∷_ (ap₂ (λ (t : Told) (v : Seen). record { answer = t; shown = v }) (c .says) (c .shows)) (go .says);
           holds = rw (← append-assoc l f (items fs)) (go .holds);
           fills = λ t₀ x. rw (← append-assoc l f (items fs)) (go .fills t₀ (c .fills t₀ x));
         }

@@ -15,26 +15,26 @@ use Rattle.record.specs.Frame.{recordsTold, messageTold, frameTold, frameDest}
 use Rattle.record.proofs.Framing.{writes-fits}
 use Rattle.record.proofs.Round.{read-is}
 use Rattle.wire.specs.Loop.{framed}
-use Rattle.wire.specs.Batch.{Batch, count, particleAt, InRange, Item, recordOf, message, AllOf, Frame, Frames}
+use Rattle.wire.specs.Batch.{Batch, Sendable, Item, recordOf, message, AllOf, Frame, Frames}
 use Rattle.wire.proofs.Arrived.{reads, record-long}
 use Rattle.wire.proofs.Receiving.{message-long, good-length}
 
 -- ---- what the sender writes
 
-module _ (b : Batch) (numbered : b .number < 65536) (few : count b ≤ 4096) (ranges : (i : ℕ) → i < count b → InRange (particleAt b i)) where
+module _ (b : Batch) (can : Sendable b) where
   all-good : (f : List Item) → AllOf b f → (k : ℕ) → recordsTold 16 (length f) k (message b f) ≡ done 0 0
   unfolding recordsTold message
   all-good [] h k = refl
   all-good (item ∷ f) h k =
       let bytes : List ℕ = writtenBytes 0 (recordOf b item) in
-      rw (read-is (bytes ++ message b f) (recordOf b item) (reads b numbered few ranges item (h .0) (message b f)), drop-at bytes (message b f) 16 (record-long b numbered few ranges item (h .0)))
+      rw (read-is (bytes ++ message b f) (recordOf b item) (reads b can item (h .0) (message b f)), drop-at bytes (message b f) 16 (record-long b can item (h .0)))
       (all-good f (h .1) (suc k))
 
   message-good : (f : List Item) → Frame b f → messageTold 16 240 (message b f) ≡ done 0 0
   unfolding messageTold
   message-good f g =
       let c : length f * 16 / 16 ≡ length f = omega arith in
-      rw (message-long b numbered few ranges f (g .ours), good-length (length f) (g .some) (g .most), c)
+      rw (message-long b can f (g .ours), good-length (length f) (g .some) (g .most), c)
       (all-good f (g .ours) 0)
 
   -- with 242 bytes of room: the frame's bytes on the wire, and no others
@@ -43,7 +43,7 @@ module _ (b : Batch) (numbered : b .number < 65536) (few : count b ≤ 4096) (ra
   unfolding writer.framed
   sends f g d h =
       writes-fits (message b f) d (message-good f g)
-      (omega (arith, encode-length (message b f), overhead-max (length (message b f)), message-long b numbered few ranges f (g .ours), g .most))
+      (omega (arith, encode-length (message b f), overhead-max (length (message b f)), message-long b can f (g .ours), g .most))
 
 -- ---- what the wire does with what was sent
 

@@ -6,12 +6,11 @@ use Prim.Native.Nat.{ℕ, _*_, _≤_, _<_}
 use lib.ListN.{length}
 use Rattle.cobs.specs.Answers.{complete}
 use Rattle.cobs.specs.Code.{encode}
-use Rattle.dec.specs.Stream.{new}
-use Rattle.batch.specs.State.{opened}
 use Rattle.wire.specs.Again.{Run, joined}
 use Rattle.wire.specs.Loop.{Side, drive, framed}
 use Rattle.wire.specs.Receive.{End, Seen, accepting}
-use Rattle.wire.specs.Batch.{Batch, count, particleAt, total, InRange, Item, message, messages, Frame, Frames, has, hasClose, arrivedCount, arrivedTotal, due, expectedAll}
+use Rattle.wire.specs.Call.{start, calls}
+use Rattle.wire.specs.Batch.{Batch, count, total, Sendable, Item, message, messages, Frame, Frames, has, hasClose, arrivedCount, arrivedTotal, due, expectedAll}
 
 -- What a sender, a wire and a receiving side do.
 pub record Delivery : Type 0 where
@@ -37,12 +36,8 @@ pub record Begun (b : Batch) (s : List ℕ) : Type 0 where
   pub front : s ++ later ≡ encode (message b frame)
 
 pub record Premises (d : Delivery) : Type 0 where
-  -- "on that batch number": a u16
-  pub numbered : d .batch .number < 65_536
-  -- "N particle records (at most 4,096), numbered 0 to N-1"
-  pub few : count (d .batch) ≤ 4_096
-  -- each one a particle record of document 01
-  pub ranges : (i : ℕ) → i < count (d .batch) → InRange (particleAt (d .batch) i)
+  -- "a batch of N particle records (at most 4,096), numbered 0 to N-1, and a close record"
+  pub sendable : Sendable (d .batch)
   -- "in frames that hold nothing else"
   pub framing : Frames (d .batch) (d .frames)
   pub begins : Begun (d .batch) (d .begun)
@@ -55,13 +50,9 @@ pub record Premises (d : Delivery) : Type 0 where
   -- "that same table": its caller may write to its bytes, not change its length
   pub same : (k : ℕ) (t : List ℕ) → length (d .handed k t) ≡ length t
 
--- "The receiver is opened once only, on that batch number"; "its decoder starts fresh".
+-- "The receiver is opened once only, on that batch number"; "its decoder starts fresh": what `Wire::open` promises.
 abbrev pub started : Delivery → Side End
-started d = record {
-  decoder = new;
-  buffer = d .buffer;
-  state = record { receiver = opened (d .batch .number) (length (d .table)); table = d .table };
-}
+started d = calls (start (d .batch .number) (length (d .table))) (d .buffer) (d .table)
 
 -- "nobody else writes those bytes or either state": between calls only the table's bytes may change.
 abbrev pub hand : Delivery → (k : ℕ) → End → End

@@ -3,6 +3,11 @@ pub mod Again
 pub mod Loop
 pub mod Receive
 pub mod Call
+pub mod Sentences
 pub mod Batch
 pub mod Demand3
 pub mod Afterwards
+pub mod Among
+pub mod Anew
+pub mod Noise
+pub mod Edges
