@@ -5,7 +5,7 @@ use mathlib.Core.List.{List, [], _∷_, _++_, append-nil}
 use Prim.Native.Nat.{ℕ, _+_, _≤_, zero-le}
 use native.Mathlib.Omega.{arith}
 use lib.ListN.{length, replicate, length-append}
-use Rattle.cobs.specs.Code.{encode}
+use Rattle.cobs.specs.Code.{encodeIn, encode}
 use Rattle.cobs.specs.Answers.{done, more}
 use Rattle.cobs.specs.OneShot.{finished}
 use Rattle.cobs.proofs.OneShot.{decodeDest-encode}
@@ -77,4 +77,10 @@ module _ (s m : List ℕ) (h : length s ≤ length m) where
       }
 
 pub ends : Ends
-ends = record { nothing = stream-trips [] [] zero-le; full = stream-trips (replicate 254 1) (replicate 254 0) (omega arith) }
+unfolding finished encode encodeIn
+ends =
+    record {
+      nothing = stream-trips [] [] zero-le .closed [];
+      full = stream-trips (replicate 254 1) (replicate 254 0) (omega arith) .closed [];
+      fullAround = stream-trips (replicate 254 1) (replicate 254 0) (omega arith) .around;
+    }

@@ -1,13 +1,15 @@
 -- 01's sentences about the streaming decoder hold of every decoder that is not BadState. Assumes nothing.
-use mathlib.Core.Path.{_≡_, refl, sym, ap, _∙_}
+use mathlib.Core.Path.{_≡_, refl, sym, ap, _∙_, subst}
 use mathlib.Core.Bool.{false}
-use mathlib.Core.List.{List, [], _++_}
+use mathlib.Core.List.{List, [], _∷_, _++_}
 use Prim.Native.Nat.{ℕ}
+use native.Mathlib.Omega.{arith}
 use lib.ListN.{length, take}
-use Rattle.cobs.specs.OneShot.{decodeDest}
-use Rattle.dec.specs.Stream.{at, new, skipping, bad, Outcome, isMore, byteOutcome, further, joined, pieceOutcome, pushOutcome, pushDest}
-use Rattle.dec.specs.Sentences.{Consumed, Drops, Sentences, FromNew, Ends}
-use Rattle.dec.specs.declared.state.DecoderState.the-variants.{GrabChain}
+use Rattle.cobs.specs.Code.{readIn, read}
+use Rattle.cobs.specs.Answers.{longest}
+use Rattle.cobs.specs.OneShot.{meant, decoded, decodeDest}
+use Rattle.dec.specs.Stream.{bad, Outcome, isMore, byteOutcome, further, joined, pieceOutcome, pushOutcome, pushDest}
+use Rattle.dec.specs.Sentences.{Consumed, Drops, Sentences, Overfull, FromNew, full, Ends}
 use Rattle.dec.specs.declared.stream.CobsDecoder.{CobsDecoder}
 use Rattle.dec.proofs.Good.{push-good}
 use Rattle.dec.proofs.Pieces.{length-piece, joined-stop, push-piece, pushDest-piece, push-cut, pushDest-cut}
@@ -73,16 +75,25 @@ pub from-new : (room : ℕ) (piece : List ℕ) → FromNew room piece
 unfolding decodeDest
 from-new room piece = record { small = push-overfull room piece; fits = overfull-never room piece; memory = push-memory piece }
 
+-- one byte has no room in nothing, and its code needs none
+one-small : Overfull 0 (0x02 ∷ 0x11 ∷ 0x00 ∷ []) 2
+unfolding decoded meant read readIn pushOutcome bad pieceOutcome byteOutcome further joined
+one-small =
+    let w = from-new 0 (0x02 ∷ 0x11 ∷ 0x00 ∷ []) .small (omega arith) in
+    subst (Overfull 0 (0x02 ∷ 0x11 ∷ 0x00 ∷ [])) (ap (λ (o : Outcome). o .answer .second) (sym (w .2))) (w .1)
+
 pub ends : Ends
 unfolding bad pushOutcome pieceOutcome byteOutcome further joined
 ends =
+    let all : Sentences full longest = sentences full longest refl in
     record {
-      least = sentences new 0 refl;
-      skips = sentences skipping 0 refl;
-      most = sentences (at 1_048_576 (GrabChain 255)) 1_048_576 refl;
-      fresh = from-new 0 [];
+      consumed = all .consumed (0x11 ∷ 0x22 ∷ []) refl;
+      early = all .early [] refl;
+      overfull = all .overfull (0x11 ∷ []) refl;
+      restarts = all .restarts;
+      good = all .good;
       nothing = refl;
-      one = refl;
+      one = one-small;
       two = refl;
       rest = refl;
     }

@@ -25,7 +25,8 @@ pub record StreamTrips (s m : List ℕ) : Type 0 where
   -- and the decoder is new again
   pub again : pushOutcome new (length m) (finished zerosAround s) .next ≡ new
 
--- At both ends: nothing at all into no room, and a full group into just its room.
+-- At both ends, the bytes written out: nothing at all into no room, and a full group into just its room.
 pub record Ends : Type 0 where
-  pub nothing : StreamTrips [] []
-  pub full : StreamTrips (replicate 254 0x01) (replicate 254 0x00)
+  pub nothing : Gives (0x01 ∷ 0x00 ∷ []) [] (done 0 2) []
+  pub full : Gives (0xFF ∷ (replicate 254 0x01 ++ 0x00 ∷ [])) (replicate 254 0x00) (done 254 256) (replicate 254 0x01)
+  pub fullAround : Gives (0x00 ∷ 0xFF ∷ (replicate 254 0x01 ++ 0x00 ∷ [])) (replicate 254 0x00) (done 254 257) (replicate 254 0x01)

@@ -6,7 +6,7 @@ use mathlib.Core.List.{List, [], _∷_, _++_}
 use Prim.Native.Nat.{ℕ, suc, _≤_, _<_}
 use lib.ListN.{length, take, drop}
 use Rattle.cobs.specs.Code.{NoZero, over}
-use Rattle.cobs.specs.Answers.{done, invalidFrame, targetBufTooSmall}
+use Rattle.cobs.specs.Answers.{done, invalidFrame, targetBufTooSmall, longest}
 use Rattle.cobs.specs.OneShot.{decoded}
 use Rattle.dec.specs.State.{givenTold}
 use Rattle.dec.specs.Stream.{at, new, skipping, bad, goes, stops, isMore, further, used, pushOutcome, pushDest}
@@ -68,16 +68,21 @@ pub record FromNew (room : ℕ) (piece : List ℕ) : Type 0 where
   -- bytes (those before a fault), the rest untouched"
   pub memory : (m : List ℕ) → pushDest new piece m ≡ over (decoded piece) m
 
--- At both ends, and 01's own example.
+-- A state that no call reaches, the most bytes decoded and no room left.
+abbrev pub full : CobsDecoder
+full = at longest (GrabChain 255)
+
+-- At both ends, written out, and 01's own example.
 pub record Ends : Type 0 where
-  -- no room at all; and a state that no call reaches, its destination full
-  pub least : Sentences new 0
-  pub skips : Sentences skipping 0
-  pub most : Sentences (at 1_048_576 (GrabChain 255)) 1_048_576
-  pub fresh : FromNew 0 []
-  -- the empty message has room in nothing, and one byte has not
+  -- from `full`
+  pub consumed : Consumed full longest (0x11 ∷ 0x22 ∷ []) 1
+  pub early : pushOutcome full longest (0x00 ∷ []) ≡ stops new (invalidFrame longest 1)
+  pub overfull : Drops (pushOutcome full longest (0x11 ∷ []) .next) longest
+  pub restarts : (s : List ℕ) (e : CobsDecoder) → Pushes longest full (s ++ 0x00 ∷ []) e → e ≡ new
+  pub good : (p : List ℕ) → bad (pushOutcome full longest p .next) longest ≡ false
+  -- into nothing: the empty message has room, and one byte has not
   pub nothing : pushOutcome new 0 (0x01 ∷ 0x00 ∷ []) ≡ stops new (done 0 2)
-  pub one : pushOutcome new 0 (0x02 ∷ 0x11 ∷ 0x00 ∷ []) ≡ stops skipping (targetBufTooSmall 2)
+  pub one : Overfull 0 (0x02 ∷ 0x11 ∷ 0x00 ∷ []) 2
   -- "into two bytes, 02 11 02 22 00 02 33 00: TargetBufTooSmall, 4 consumed; the rest gives frame 1, parsed 4"
   pub two : pushOutcome new 2 (0x02 ∷ 0x11 ∷ 0x02 ∷ 0x22 ∷ 0x00 ∷ 0x02 ∷ 0x33 ∷ 0x00 ∷ []) ≡ stops skipping (targetBufTooSmall 4)
   pub rest : pushOutcome skipping 2 (0x00 ∷ 0x02 ∷ 0x33 ∷ 0x00 ∷ []) ≡ stops new (done 1 4)
