@@ -3,12 +3,13 @@
 use mathlib.Core.Path.{_≡_, refl, ap, _∙_}
 use mathlib.Core.Bool.{true, false}
 use mathlib.Core.List.{List, [], _∷_, _++_}
-use Prim.Native.Nat.{ℕ}
+use Prim.Native.Nat.{ℕ, _<_}
 use native.Mathlib.Omega.{arith}
 use lib.Dec.{eqb, ltb}
 use lib.ListN.{length}
 use borrow.Author.Tests.{eq-eqb}
 use Rattle.cobs.specs.Code.{Bytes}
+use Rattle.cobs.proofs.Runs.{each-front, each-back}
 use Rattle.cobs.proofs.Wide.{bytes-drop}
 use Rattle.dec.proofs.Cases.{by-bool}
 use Rattle.batch.specs.State.{standBy, standTold, standsTold, opened}
@@ -25,6 +26,7 @@ use Rattle.wire.specs.Demand3.{Delivery, Premises, started, hand}
 use Rattle.wire.proofs.Again.{Same, AlikeTo, Each, drive-same}
 use Rattle.wire.proofs.Loop as over
 use Rattle.wire.proofs.Accepting.{Fine, fit, keeps}
+use Rattle.wire.proofs.Wide.{delivered-bytes}
 use Rattle.wire.proofs.Demand3.{demand3}
 use Rattle.dec.proofs.Good.{new-good}
 use Rattle.numbers.specs.Numbers.{numbersOf, wireIn, names, writtenTo}
@@ -85,13 +87,9 @@ shown-like l s h =
 
 -- ---- the loop
 
-append-bytes : (p q : List ℕ) → Bytes (p ++ q) → Bytes p × Bytes q
-append-bytes [] q h = (tt, h)
-append-bytes (b ∷ p) q h = ((h .0, append-bytes p q (h .1) .0), append-bytes p q (h .1) .1)
-
 each-bytes : (ps : List (List ℕ)) → Bytes (joined ps) → Each Bytes ps
 each-bytes [] h = tt
-each-bytes (p ∷ ps) h = let b = append-bytes p (joined ps) h in (b .0, each-bytes ps (b .1))
+each-bytes (p ∷ ps) h = (each-front (λ b. b < 256) p (joined ps) h, each-bytes ps (each-back (λ b. b < 256) p (joined ps) h))
 
 module _ (ns : List ℕ) (d : Delivery) (p : Premises d) (c : Lends ns d) where
   open-like : Like (opens ns d) (started d)
@@ -125,7 +123,7 @@ module _ (ns : List ℕ) (d : Delivery) (p : Premises d) (c : Lends ns d) where
   run-like =
       drive-same Like Bytes (λ q n b. bytes-drop q n b) (λ k l q. receives (handOver d k l) q) (called accepting (hand d))
       (λ k l s h q b. receive-like (handOver d k l) (record { decoder = s .decoder; buffer = s .buffer; state = hand d k (s .state) }) (handed-like k l s h) q b)
-      shows (seen accepting (hand d)) shown-like (d .pieces) (each-bytes (d .pieces) (c .pieces)) 0 (opens ns d) (started d) open-like
+      shows (seen accepting (hand d)) shown-like (d .pieces) (each-bytes (d .pieces) (delivered-bytes d p)) 0 (opens ns d) (started d) open-like
 
   pub demand3-in-c : Demand3 ns d
   demand3-in-c = record { answers = run-like .said ∙ demand3 d p .answers; completes = demand3 d p .completes }

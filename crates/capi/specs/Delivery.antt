@@ -7,7 +7,7 @@ use Prim.Native.Nat.{ℕ}
 use lib.ListN.{length}
 use Rattle.cobs.specs.Code.{Bytes}
 use Rattle.batch.specs.State.{markedIn}
-use Rattle.wire.specs.Again.{Received, Run, drive, joined}
+use Rattle.wire.specs.Again.{Received, Run, drive}
 use Rattle.wire.specs.Receive.{Seen}
 use Rattle.wire.specs.Batch.{Item, expectedAll}
 use Rattle.wire.specs.Demand3.{Delivery, Completes}
@@ -53,11 +53,10 @@ shows l = record {
 abbrev pub run : (numbers : List ℕ) → Delivery → Run Lent Seen
 run numbers d = drive (λ k l piece. receives (handOver d k l) piece) shows 0 (opens numbers d) (d .pieces)
 
--- What C lends is of its types: a list of as many numbers as `laksovuth_state_length` says, whatever they are, and bytes.
+-- What C lends: a list of as many numbers as `laksovuth_state_length` says, whatever they are, and bytes to decode into.
 pub record Lends (numbers : List ℕ) (d : Delivery) : Type 0 where
   pub long : length numbers ≡ 74
   pub buffer : Bytes (d .buffer)
-  pub pieces : Bytes (joined (d .pieces))
 
 -- "After each whole frame its total is the sum of the weights of the distinct particles that have arrived", and its answer is
 -- the one that is due: one for each whole frame, in order, and no call refuses.

@@ -1,23 +1,34 @@
 -- Lists without a zero, and what `run` takes. Assumes nothing.
 use mathlib.Core.Path.{_≡_, refl, ap}
 use mathlib.Core.List.{List, [], _∷_, _++_, nil≢cons, head-eq-of-cons-eq}
-use Prim.Native.Nat.{ℕ, zero, suc, _≤_, zero-le, suc-le-suc}
+use Prim.Native.Nat.{ℕ, zero, suc, _≤_, _<_, zero-le, suc-le-suc}
 use native.Mathlib.Nat.{le-of-suc-le-suc, not-suc-le-zero, le-refl}
 use native.Mathlib.Omega.{arith}
 use lib.ListN.{length, drop}
-use Rattle.cobs.specs.Code.{NoZero, run}
+use Rattle.cobs.specs.Code.{Each, NoZero, run}
+
+-- what holds of each number holds of each of lists joined, and the other way round
+module _ (P : ℕ → Type 0) where
+  pub each-append : (r s : List ℕ) → Each P r → Each P s → Each P (r ++ s)
+  each-append [] s g h = h
+  each-append (b ∷ r) s g h = (g .0, each-append r s (g .1) h)
+
+  pub each-front : (r s : List ℕ) → Each P (r ++ s) → Each P r
+  each-front [] s h = tt
+  each-front (b ∷ r) s h = (h .0, each-front r s (h .1))
+
+  pub each-back : (r s : List ℕ) → Each P (r ++ s) → Each P s
+  each-back [] s h = h
+  each-back (b ∷ r) s h = each-back r s (h .1)
 
 pub no-zero-append : (r s : List ℕ) → NoZero r → NoZero s → NoZero (r ++ s)
-no-zero-append [] s h k = k
-no-zero-append (b ∷ r) s h k = (h .0, no-zero-append r s (h .1) k)
+no-zero-append r s g h = each-append (λ b. 0 < b) r s g h
 
 pub no-zero-front : (r s : List ℕ) → NoZero (r ++ s) → NoZero r
-no-zero-front [] s h = tt
-no-zero-front (b ∷ r) s h = (h .0, no-zero-front r s (h .1))
+no-zero-front r s h = each-front (λ b. 0 < b) r s h
 
 pub no-zero-back : (r s : List ℕ) → NoZero (r ++ s) → NoZero s
-no-zero-back [] s h = h
-no-zero-back (b ∷ r) s h = no-zero-back r s (h .1)
+no-zero-back r s h = each-back (λ b. 0 < b) r s h
 
 pub no-zero-run : (n : ℕ) (m : List ℕ) → NoZero (run n m)
 no-zero-run zero m = tt

@@ -1,9 +1,12 @@
--- Bytes stay bytes: parts of a list, and one with a byte stored. Assumes nothing.
-use mathlib.Core.List.{List, [], _∷_}
-use Prim.Native.Nat.{ℕ, zero, suc, _<_}
+-- Bytes stay bytes: parts of a list, one with a byte stored, and an encoding. Assumes nothing.
+use mathlib.Core.Bool.{Bool, true, false}
+use mathlib.Core.List.{List, [], _∷_, _++_}
+use Prim.Native.Nat.{ℕ, zero, suc, _≤_, _<_}
 use native.Mathlib.Omega.{arith}
-use lib.ListN.{getD, set, take, drop}
-use Rattle.cobs.specs.Code.{Bytes}
+use lib.Dec.{eqb}
+use lib.ListN.{length, getD, set, take, drop}
+use Rattle.cobs.specs.Code.{Bytes, run, group, encodeIn, encode}
+use Rattle.cobs.proofs.Runs.{each-append, length-run}
 
 pub bytes-at : (s : List ℕ) → Bytes s → (k : ℕ) → getD s k 0 < 256
 bytes-at [] h k = omega arith
@@ -24,3 +27,29 @@ pub bytes-set : (s : List ℕ) (i b : ℕ) → b < 256 → Bytes s → Bytes (se
 bytes-set [] i b l h = tt
 bytes-set (x ∷ s) zero b l h = (l, h .1)
 bytes-set (x ∷ s) (suc i) b l h = (h .0, bytes-set s i b l (h .1))
+
+-- ---- an encoding
+
+run-bytes : (n : ℕ) (m : List ℕ) → Bytes m → Bytes (run n m)
+run-bytes zero m h = tt
+run-bytes (suc n) [] h = tt
+run-bytes (suc n) (zero ∷ m) h = tt
+run-bytes (suc n) (suc b ∷ m) h = (h .0, run-bytes n m (h .1))
+
+module _ (go : List ℕ → List ℕ) (goes : (m : List ℕ) → Bytes m → Bytes (go m)) where
+  group-bytes : (full : Bool) (r after : List ℕ) → Bytes r → length r ≤ 254 → Bytes after → Bytes (group go full r after)
+  group-bytes true r [] g l h = (omega arith, g)
+  group-bytes true r (b ∷ rest) g l h = (omega arith, each-append (λ b. b < 256) r (go (b ∷ rest)) g (goes (b ∷ rest) h))
+  group-bytes false r (z ∷ rest) g l h = (omega arith, each-append (λ b. b < 256) r (go rest) g (goes rest (h .1)))
+  group-bytes false r [] g l h = (omega arith, g)
+
+groups-bytes : (n : ℕ) (m : List ℕ) → Bytes m → Bytes (encodeIn n m)
+unfolding encodeIn
+groups-bytes zero m h = tt
+groups-bytes (suc n) m h =
+    let r : List ℕ = run 254 m in
+    group-bytes (encodeIn n) (groups-bytes n) (eqb (length r) 254) r (drop (length r) m) (run-bytes 254 m h) (length-run 254 m) (bytes-drop m (length r) h)
+
+pub encode-bytes : (m : List ℕ) → Bytes m → Bytes (encode m)
+unfolding encode
+encode-bytes m h = groups-bytes (suc (length m)) m h

@@ -45,15 +45,18 @@ overhead (suc n) = (suc n + 253) / 254
 abbrev pub maxLength : ℕ → ℕ
 maxLength n = n + overhead n
 
+-- Of each number.
+abbrev pub Each : (P : ℕ → Type 0) → List ℕ → Type 0
+Each P [] = Unit {0}
+Each P (b ∷ s) = P b × Each P s
+
 -- No byte is zero.
 abbrev pub NoZero : List ℕ → Type 0
-NoZero [] = Unit {0}
-NoZero (b ∷ s) = (0 < b) × NoZero s
+NoZero s = Each (λ b. 0 < b) s
 
 -- Each number is a byte.
 abbrev pub Bytes : List ℕ → Type 0
-Bytes [] = Unit {0}
-Bytes (b ∷ s) = (b < 256) × Bytes s
+Bytes s = Each (λ b. b < 256) s
 
 -- ---- A body, read as groups
 

@@ -2,19 +2,19 @@
 use mathlib.Core.Path.{_≡_, refl, sym, ap, ap₂, _∙_}
 use mathlib.Core.Bool.{Bool, true, false, _&&_, true≢false}
 use mathlib.Core.List.{List, [], _∷_, _++_}
-use Prim.Native.Nat.{ℕ, suc, _+_, _-_, _*_, _/_, _%_, _≤_, _<_}
+use Prim.Native.Nat.{ℕ, zero, suc, _+_, _-_, _*_, _/_, _%_, _≤_, _<_}
 use native.Mathlib.Nat.{zero-add, add-mul-mod-self-left, add-mul-div-left, mod-eq-of-lt, div-eq-of-lt}
 use native.Mathlib.Decide.{decLt}
 use native.Mathlib.Omega.{arith}
 use lib.IntN.{ℤ, pos, negsuc}
 use lib.Dec.{leb}
-use lib.ListN.{length, getD, take, drop}
+use lib.ListN.{length, getD, take, drop, replicate}
 use borrow.Author.Tests.{le-leb, leb-true}
 use lib.Seq.{drop-cons}
 use lib.Signed.{mag}
 use Rattle.cobs.specs.Words.{if_then_else_}
 use Rattle.cobs.specs.Code.{Bytes}
-use Rattle.cobs.specs.Answers.{done, badRecord}
+use Rattle.cobs.specs.Answers.{done, badRecord, isDone}
 use Rattle.cobs.proofs.Told.{unlike}
 use Rattle.cobs.proofs.Wide.{bytes-at}
 use Rattle.record.specs.Record.{bytes16, bytes32, bits, signed, fieldsOf, bytesOf, fieldsFor, recordIn, isValid, writeTold, writtenBytes, isRecord, readOf}
@@ -252,3 +252,27 @@ read-total s {b} {n} {t} h e =
         let p = simp k at q in
         let same : f .weight ≡ t = cc in
         omega (arith, w .weight)
+
+-- ---- what is written are bytes
+
+two-below : (n : ℕ) {X : Type 0} → X → (n % 256 < 256) × ((n / 256 % 256 < 256) × X)
+two-below n x = (omega arith, (omega arith, x))
+
+fields-wide : (f : Fields) → f .kind < 256 → f .board < 256 → Bytes (bytesOf f)
+unfolding bytesOf
+fields-wide f k b =
+    let weight = two-below (f .weight % 65536) (two-below (f .weight / 65536) tt) in
+    two-below (f .batch) (two-below (f .index) (two-below (f .x) (two-below (f .y) (two-below (f .z) (k, (b, weight))))))
+
+zeros : (n : ℕ) → Bytes (replicate n 0)
+zeros zero = tt
+zeros (suc n) = (omega arith, zeros n)
+
+pub written-wide : (r : Record) → Bytes (writtenBytes 0 r)
+unfolding writtenBytes fieldsFor
+written-wide r = by (isDone (writeTold 0 r)) r
+  where
+    by : (ok : Bool) (r : Record) → Bytes (if ok then bytesOf (fieldsFor 0 r) else replicate 16 0)
+    by true (Particle b i x y z w) = fields-wide (fieldsFor 0 (Particle b i x y z w)) (omega arith) (omega arith)
+    by true (Close b n t) = fields-wide (fieldsFor 0 (Close b n t)) (omega arith) (omega arith)
+    by false r = zeros 16

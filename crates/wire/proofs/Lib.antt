@@ -15,6 +15,7 @@ pub mod Among
 pub mod Anew
 pub mod Noise
 pub mod Sentences
+pub mod Wide
 pub mod Demand3
 pub mod Afterwards
 pub mod Sender
