@@ -16,6 +16,7 @@ pub mod Anew
 pub mod Noise
 pub mod Sentences
 pub mod Demand3
+pub mod Moments
 pub mod Afterwards
 pub mod Sender
 pub mod Calls
