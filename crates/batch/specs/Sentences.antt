@@ -14,11 +14,13 @@ pub record NotBad (r : Receiver) (n : ℕ) : Type 0 where
   pub words : length (r .marks) ≡ 64
 
 -- "BadState: table shorter than the slots, slots over 4,096, a mark at or above the slot count or a taken close's count, a close
--- count over the slots, total over 1,000,000 times the marked." No call leads there from a state that is not one: opening gives none,
--- and no frame leads to one, with the table, which stays as long as it is.
+-- count over the slots, total over 1,000,000 times the marked." No call leads there.
 pub record NeverBad : Type 0 where
+  -- opening gives none
   pub opens : (batch : ℕ) (table : List ℕ) → NotBad (opened batch (length table)) (length table)
+  -- from a state that is not bad no frame leads to one, taken or refused
   pub accepts : (r : Receiver) (table frame : List ℕ) → NotBad r (length table) → NotBad (acceptNext r table frame) (length (acceptTable r table frame))
+  -- the table stays as long as it is
   pub long : (r : Receiver) (table frame : List ℕ) → length (acceptTable r table frame) ≡ length table
 
 -- "Refusals 1 and 4 to 13 change neither state nor buffer": of `accept`, whose answers from 15 on say how the batch stands.

@@ -30,14 +30,6 @@ abbrev pub end : Delivery → End
 end d = afterAll (started d .state) (messages (d .batch) (d .frames))
 
 module _ (d : Delivery) (p : Premises d) where
-  -- the front of one more says nothing
-  pub begun-more : isMore (pushOutcome new (length (d .buffer)) (d .begun)) ≡ true
-  begun-more =
-      let q = p .begins in
-      front-more (message (d .batch) (q .frame)) (d .begun) (q .later) (length (d .buffer))
-      (omega (arith, message-long (d .batch) (p .sendable) (q .frame) (q .framing .ours), q .framing .most, p .room))
-      (q .front)
-
   pub open-fine : Fine (started d .state)
   unfolding Fine
   open-fine = open-good (d .batch .number) (length (d .table))
@@ -46,27 +38,35 @@ module _ (d : Delivery) (p : Premises d) where
   tables k t = rw (p .same k t)
 
   module _ (a : Among d) where
+    -- the front of one more says nothing
+    pub begun-more : isMore (pushOutcome new (length (d .buffer)) (a .begun)) ≡ true
+    begun-more =
+        let q = a .begins in
+        front-more (message (a .last) (q .frame)) (a .begun) (q .later) (length (d .buffer))
+        (omega (arith, message-long (a .last) (a .sendable) (q .frame) (q .framing .ours), q .framing .most, p .room))
+        (q .front)
+
     pub heard-alike : AlikeTo (Likewise accepting Like bads says goes shows (hand d) alone (hands (d .handed) tables)) (runAmong d a) (drive accepting alone 0 (started d) (a .pieces))
     heard-alike = unseen (d .handed) tables (started d) (a .pieces)
 
     -- what is said to what came, and what is left of it
     abbrev pub LeftBy : Run (Side End) Seen → Type 0
     LeftBy r =
-        Left (d .batch) (p .sendable) (length (d .table)) (p .slots) (length (d .buffer)) (p .room) (d .begun) begun-more [] (a .came) (started d .state) r
+        Left (d .batch) (p .sendable) (length (d .table)) (p .slots) (length (d .buffer)) (p .room) (a .begun) begun-more [] (a .came) (started d .state) r
 
     -- from a new decoder over a buffer as long, with the receiver as it was opened
     pub from-new : (buffer : List ℕ) → length buffer ≡ length (d .buffer)
-        → LeftBy (byBytes accepting Fine fit keeps (waiting accepting Fine fit keeps answers buffer (started d .state)) (bytesOf (d .batch) (a .came) ++ d .begun))
+        → LeftBy (byBytes accepting Fine fit keeps (waiting accepting Fine fit keeps answers buffer (started d .state)) (bytesOf (d .batch) (a .came) ++ a .begun))
     from-new buffer l =
         let h = open-held (d .batch) (p .sendable) (length (d .table)) (p .slots) in
         let q = open-good (d .batch .number) (length (d .table)) in
-        mixed (d .batch) (p .sendable) (length (d .table)) (p .slots) (length (d .buffer)) (p .room) (d .begun) begun-more (a .came) (a .all) [] tt
+        mixed (d .batch) (p .sendable) (length (d .table)) (p .slots) (length (d .buffer)) (p .room) (a .begun) begun-more (a .came) (a .all) [] tt
         buffer l (started d .state) h q refl
 
     -- however it is cut, by a caller who leaves the table alone
     pub left : LeftBy (drive accepting alone 0 (started d) (a .pieces))
     left =
-        left-alike (d .batch) (p .sendable) (length (d .table)) (p .slots) (length (d .buffer)) (p .room) (d .begun) begun-more [] (a .came) (started d .state)
+        left-alike (d .batch) (p .sendable) (length (d .table)) (p .slots) (length (d .buffer)) (p .room) (a .begun) begun-more [] (a .came) (started d .state)
         (drive-bytes accepting Fine fit keeps (a .pieces) 0 (started d) (waiting-good accepting Fine fit keeps answers (d .buffer) (started d .state) open-fine))
         (rw (a .cut) (from-new (d .buffer) refl))
 
@@ -126,6 +126,10 @@ module _ (d : Delivery) (p : Premises d) where
     came = allOurs (d .frames);
     all = all-ours (d .batch) (d .frames) (p .framing);
     frames = ours-in (d .frames);
+    last = d .batch;
+    sendable = p .sendable;
+    begun = d .begun;
+    begins = p .begins;
     pieces = d .pieces;
     cut = p .cut ∙ ap (λ (s : List ℕ). s ++ d .begun) (ours-bytes (d .batch) (d .frames));
   }

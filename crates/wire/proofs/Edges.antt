@@ -28,7 +28,7 @@ use Rattle.wire.specs.Afterwards.{items}
 use Rattle.wire.specs.Among.{ours, bytesOf, oursIn, Other, AllCame, Among}
 use Rattle.wire.specs.Anew.{Anew}
 use Rattle.wire.specs.Noise.{AllRefused, noiseRun, Noisy}
-use Rattle.wire.specs.Edges.{completeWith, heaviest, widest, numberedFrom, fifteens, lastFrame, beginning, stream, most, MostMet, before, next, crowded, MostAmong, nobody, closing, leastInto, least, EmptyComplete, CompleteAgain, noise, refusedWith, CompleteAfterNoise}
+use Rattle.wire.specs.Edges.{completeWith, heaviest, widest, numberedFrom, fifteens, lastFrame, beginning, stream, most, MostMet, before, crowded, lateBeginning, MostAmong, nobody, closing, leastInto, least, EmptyComplete, CompleteAgain, noise, refusedWith, CompleteAfterNoise}
 use Rattle.wire.proofs.Sums.{hasClose-close}
 use Rattle.wire.proofs.Demand3.{completed, demand3}
 use Rattle.wire.proofs.Afterwards.{has-append}
@@ -62,7 +62,17 @@ empty-complete = record { premises = met-least; answers = demand3 least met-leas
 -- nothing else comes with it
 abbrev nothing-else : Among least
 nothing-else =
-    record { came = ours (close ∷ []) ∷ []; all = (close-frame nobody, tt); frames = refl; pieces = closing ∷ []; cut = refl }
+    record {
+      came = ours (close ∷ []) ∷ [];
+      all = (close-frame nobody, tt);
+      frames = refl;
+      last = nobody;
+      sendable = met-least .sendable;
+      begun = [];
+      begins = met-least .begins;
+      pieces = closing ∷ [];
+      cut = refl;
+    }
 
 pub complete-again : CompleteAgain
 unfolding sumBelow countBelow
@@ -107,14 +117,13 @@ unfolding fifteens lastFrame
 all-frames zero k h = (record { some = omega arith; most = omega arith; ours = (omega (arith, widest-count), (tt, tt)) }, tt)
 all-frames (suc n) k h = (fifteen-frame k (omega (arith, suc-mul n 15)), all-frames n (k + 15) (omega (arith, suc-mul n 15)))
 
+begun-at : (b : Batch) (f : List Item) → Frame b f → (n : ℕ) → Begun b (take n (encode (message b f)))
+begun-at b f g n =
+    record { frame = f; framing = g; later = drop n (encode (message b f)); front = take-append-drop n (encode (message b f)) }
+
 begins : Begun widest beginning
 unfolding beginning
-begins = record {
-  frame = numberedFrom 15 0;
-  framing = fifteen-frame 0 (omega arith);
-  later = drop 100 (encode (message widest (numberedFrom 15 0)));
-  front = take-append-drop 100 (encode (message widest (numberedFrom 15 0)));
-}
+begins = begun-at widest (numberedFrom 15 0) (fifteen-frame 0 (omega arith)) 100
 
 met : Premises most
 unfolding most stream
@@ -201,21 +210,22 @@ before-frame : Frame before (numberedFrom 15 4081)
 unfolding before
 before-frame = fifteen-of (record { number = 65534; particles = replicate 4096 heaviest }) 4081 (omega (arith, length-replicate 4096 heaviest))
 
+late-begins : Begun before lateBeginning
+unfolding lateBeginning
+late-begins = begun-at before (numberedFrom 15 4081) before-frame 100
+
 is-before : Other widest before
 unfolding widest before
 is-before = record { unlike = λ e. omega arith; sendable = heavy 65534 (omega arith) }
 
-is-next : Other widest next
-unfolding widest next
-is-next = record {
-  unlike = λ e. omega arith;
-  sendable = record { numbered = omega arith; few = omega arith; ranges = λ i h. absurd (not-suc-le-zero h) };
-}
+is-after : Other widest nobody
+unfolding widest
+is-after = record { unlike = λ e. omega arith; sendable = met-least .sendable }
 
 crowded-came : (fs : List (List Item)) → Frames widest fs → AllCame widest (crowded fs)
 unfolding crowded
 crowded-came [] g = tt
-crowded-came (f ∷ fs) g = (is-before, before-frame, (g .0, (is-next, close-frame next, crowded-came fs (g .1))))
+crowded-came (f ∷ fs) g = (is-before, before-frame, (g .0, (is-after, close-frame nobody, crowded-came fs (g .1))))
 
 crowded-ours : (fs : List (List Item)) → oursIn (crowded fs) ≡ fs
 unfolding crowded
@@ -228,13 +238,17 @@ crowd = record {
   came = crowded (most .frames);
   all = crowded-came (most .frames) (met .framing);
   frames = crowded-ours (most .frames);
-  pieces = (bytesOf widest (crowded (most .frames)) ++ beginning) ∷ [];
-  cut = append-nil (bytesOf widest (crowded (most .frames)) ++ beginning);
+  last = before;
+  sendable = is-before .sendable;
+  begun = lateBeginning;
+  begins = late-begins;
+  pieces = (bytesOf widest (crowded (most .frames)) ++ lateBeginning) ∷ [];
+  cut = append-nil (bytesOf widest (crowded (most .frames)) ++ lateBeginning);
 }
 
 pub most-among : MostAmong
 unfolding crowd
-most-among = record { among = crowd; crowd = refl; delivered = delivered-among most met crowd; late = refl; early = refl }
+most-among = record { among = crowd; crowd = refl; begun = refl; delivered = delivered-among most met crowd; late = refl; early = refl }
 
 -- ---- noise before
 

@@ -17,6 +17,7 @@ pub mod Noise
 pub mod Sentences
 pub mod Wide
 pub mod Demand3
+pub mod Moments
 pub mod Afterwards
 pub mod Sender
 pub mod Calls

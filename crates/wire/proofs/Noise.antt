@@ -27,7 +27,7 @@ module _ (d : Delivery) (p : Premises d) (a : Among d) (n : Noisy d a) where
   noise = n .bytes ++ 0 ∷ []
 
   abbrev coming : List ℕ
-  coming = bytesOf (d .batch) (a .came) ++ d .begun
+  coming = bytesOf (d .batch) (a .came) ++ a .begun
 
   good : Good accepting Fine fit keeps side
   good = record { decoding = n .fit; taking = open-fine d p }

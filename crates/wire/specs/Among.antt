@@ -13,7 +13,7 @@ use Rattle.wire.specs.Again.{Said, Run, joined}
 use Rattle.wire.specs.Loop.{Side, drive}
 use Rattle.wire.specs.Receive.{End, Seen, accepting}
 use Rattle.wire.specs.Batch.{Batch, Sendable, Item, message, Frame, expected}
-use Rattle.wire.specs.Demand3.{Delivery, started, hand, run}
+use Rattle.wire.specs.Demand3.{Delivery, Begun, started, hand, run}
 use Rattle.wire.specs.Afterwards.{LeftAlone}
 
 -- A frame of our batch, a frame of another one, or a zero that ends no frame. A frame written with a zero before and after is an
@@ -49,14 +49,18 @@ AllCame b (ours frame ∷ came) = Frame b frame × AllCame b came
 AllCame b (other o frame ∷ came) = Other b o × Frame o frame × AllCame b came
 AllCame b (idle ∷ came) = AllCame b came
 
--- What comes in place of a delivery's bytes: its own frames in their order with anything among them, then the bytes begun; cut
--- anywhere.
+-- What comes in place of a delivery's bytes: its own frames in their order with anything among them, and the bytes that have come of
+-- one more frame, ours or another's; cut anywhere.
 pub record Among (d : Delivery) : Type 0 where
   pub came : List Came
   pub all : AllCame (d .batch) came
   pub frames : oursIn came ≡ d .frames
+  pub last : Batch
+  pub sendable : Sendable last
+  pub begun : List ℕ
+  pub begins : Begun last begun
   pub pieces : List (List ℕ)
-  pub cut : joined pieces ≡ bytesOf (d .batch) came ++ d .begun
+  pub cut : joined pieces ≡ bytesOf (d .batch) came ++ begun
 
 -- The same side takes them, with the same caller of the table.
 abbrev pub runAmong : (d : Delivery) → Among d → Run (Side End) Seen
@@ -86,6 +90,7 @@ toOurs (other o frame ∷ came) [] = []
 toOurs (other o frame ∷ came) (s ∷ said) = toOurs came said
 toOurs (idle ∷ came) said = toOurs came said
 
+-- What is answered, and what is left.
 pub record DeliveredAmong (d : Delivery) (a : Among d) : Type 0 where
   -- one answer for each frame, in order
   pub answers : runAmong d a .said ≡ expectedAmong (d .batch) [] (a .came)

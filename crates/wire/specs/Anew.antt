@@ -27,9 +27,9 @@ pub record Anew (left : Side End) (room : ℕ) : Type 0 where
   pub answers : (d : Delivery) → Premises d → d .buffer ≡ left .buffer
       → drive accepting (hand d) 0 (openedOn left d) (d .pieces) .said ≡ expectedAll (d .batch) [] (d .frames)
 
--- After a delivery of whole frames, whatever came among them: its decoder is new, its buffer as long as it was.
+-- After a delivery of whole frames, whatever came among them: the decoder is new, its buffer as long as it was.
 abbrev pub AfterDelivery : (d : Delivery) → Among d → Type 0
-AfterDelivery d a = d .begun ≡ [] → Anew (runAmong d a .side) (length (d .buffer))
+AfterDelivery d a = a .begun ≡ [] → Anew (runAmong d a .side) (length (d .buffer))
 
 -- "After any bytes that end in zero": from any states that are not bad, cut anywhere, and whatever the caller writes to the table.
 pub record Noise : Type 0 where

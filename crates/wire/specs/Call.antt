@@ -12,6 +12,7 @@ use Rattle.wire.specs.declared.Receipt.{Receipt}
 use Rattle.wire.specs.declared.Received.{Received}
 use Rattle.wire.specs.declared.Received.the-variants as says
 
+-- Each answer as document 01 numbers it.
 abbrev pub toldReceived : Received → Told
 toldReceived says.More = more
 toldReceived (says.InvalidFrame decoded) = invalidFrame decoded 0

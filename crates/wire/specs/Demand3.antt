@@ -35,6 +35,7 @@ pub record Begun (b : Batch) (s : List ℕ) : Type 0 where
   pub later : List ℕ
   pub front : s ++ later ≡ encode (message b frame)
 
+-- What the demand says of them.
 pub record Premises (d : Delivery) : Type 0 where
   -- "a batch of N particle records (at most 4,096), numbered 0 to N-1, and a close record"
   pub sendable : Sendable (d .batch)

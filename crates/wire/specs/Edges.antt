@@ -73,34 +73,35 @@ pub record MostMet : Type 0 where
 
 -- ---- The most of everything, and others among it
 
--- The batch before it, as large; all its fifteens come late, again and again.
+-- The batch before it, as large: its last frame comes late, again and again.
 unfoldable pub before : Batch
 before = record { number = 65_534; particles = replicate 4_096 heaviest }
 
--- The batch after it: the numbers begin again at 0.
-unfoldable pub next : Batch
-next = record { number = 0; particles = [] }
+-- A batch without particles. Its number, 0, is the one after 65,535.
+abbrev pub nobody : Batch
+nobody = record { number = 0; particles = [] }
 
--- With each of our frames one of the batch before and one of the batch after; each with a zero before and after.
+-- With each of our frames one of the batch before and one of the batch after; ours and those before it with zeros around them.
 unfoldable pub crowded : (frames : List (List Item)) → List Came
 crowded [] = idle ∷ []
-crowded (frame ∷ frames) = idle ∷ other before (numberedFrom 15 4_081) ∷ idle ∷ ours frame ∷ idle ∷ other next (close ∷ []) ∷ crowded frames
+crowded (frame ∷ frames) = idle ∷ other before (numberedFrom 15 4_081) ∷ idle ∷ ours frame ∷ idle ∷ other nobody (close ∷ []) ∷ crowded frames
+
+-- At the end 100 bytes have come of one more frame of the batch before.
+unfoldable pub lateBeginning : List ℕ
+lateBeginning = take 100 (encode (message before (numberedFrom 15 4_081)))
 
 -- It can come so; then our frames are answered as before, and of the others one is Stale, one Ahead.
 pub record MostAmong : Type 0 where
   pub among : Among most
   pub crowd : among .came ≡ crowded (most .frames)
+  pub begun : among .begun ≡ lateBeginning
   pub delivered : DeliveredAmong most among
   pub late : refusal 65_534 65_535 ≡ stale 0
   pub early : refusal 0 65_535 ≡ ahead 0
 
 -- ---- Nothing at all
 
--- A batch without particles.
-abbrev pub nobody : Batch
-nobody = record { number = 0; particles = [] }
-
--- Its close in a frame.
+-- The close of the batch without particles, in a frame.
 abbrev pub closing : List ℕ
 closing = framed (messages nobody ((close ∷ []) ∷ []))
 
@@ -109,6 +110,7 @@ abbrev pub leastInto : (buffer : List ℕ) → Delivery
 leastInto buffer =
     record { batch = nobody; frames = (close ∷ []) ∷ []; begun = []; pieces = closing ∷ []; buffer = buffer; table = []; handed = λ k t. t }
 
+-- Into 240 bytes.
 abbrev pub least : Delivery
 least = leastInto (replicate 240 0)
 

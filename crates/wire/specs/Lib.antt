@@ -6,6 +6,7 @@ pub mod Call
 pub mod Sentences
 pub mod Batch
 pub mod Demand3
+pub mod Moments
 pub mod Afterwards
 pub mod Among
 pub mod Anew

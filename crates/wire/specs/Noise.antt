@@ -35,7 +35,7 @@ pub record Noisy (d : Delivery) (a : Among d) : Type 0 where
   pub bytes : List ℕ
   pub refused : AllRefused (noiseRun d decoder (bytes ++ 0 ∷ []) .said)
   pub pieces : List (List ℕ)
-  pub cut : joined pieces ≡ (bytes ++ 0 ∷ []) ++ (bytesOf (d .batch) (a .came) ++ d .begun)
+  pub cut : joined pieces ≡ (bytes ++ 0 ∷ []) ++ (bytesOf (d .batch) (a .came) ++ a .begun)
 
 -- After the noise the receiver is still the one that was opened; and after the refusals each frame is answered as it is without
 -- noise.
