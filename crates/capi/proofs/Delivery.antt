@@ -10,7 +10,7 @@ use lib.ListN.{length}
 use borrow.Author.Tests.{eq-eqb}
 use Rattle.cobs.specs.Code.{Bytes}
 use Rattle.cobs.proofs.Runs.{each-front, each-back}
-use Rattle.cobs.proofs.Wide.{bytes-drop}
+use Rattle.cobs.proofs.Wide.{bytes-drop, bytes-zeros}
 use Rattle.dec.proofs.Cases.{by-bool}
 use Rattle.batch.specs.State.{standBy, standTold, standsTold, opened}
 use Rattle.batch.proofs.Good.{open-good}
@@ -27,13 +27,15 @@ use Rattle.wire.proofs.Again.{Same, AlikeTo, Each, drive-same}
 use Rattle.wire.proofs.Loop as over
 use Rattle.wire.proofs.Accepting.{Fine, fit, keeps}
 use Rattle.wire.proofs.Wide.{delivered-bytes}
+use Rattle.wire.specs.Edges.{least, most}
 use Rattle.wire.proofs.Demand3.{demand3}
+use Rattle.wire.proofs.Edges.{empty-complete, most-met}
 use Rattle.dec.proofs.Good.{new-good}
 use Rattle.numbers.specs.Numbers.{numbersOf, wireIn, names, writtenTo}
 use Rattle.numbers.proofs.Naming.{own-back, own-named}
 use Rattle.numbers.proofs.Within.{Within, within-fits, received-within}
 use Rattle.capi.specs.Stream.{openState, receiveTold, receiveConsumed, receiveState, receiveBuffer, receiveTable, stateTold, stateTotal}
-use Rattle.capi.specs.Delivery.{Lent, opens, receives, handOver, shows, run, Lends, Demand3}
+use Rattle.capi.specs.Delivery.{Lent, opens, receives, handOver, shows, run, Lends, Demand3, Ends}
 
 -- ---- what is lent, and the side that it stands for
 
@@ -127,3 +129,16 @@ module _ (ns : List ℕ) (d : Delivery) (p : Premises d) (c : Lends ns d) where
 
   pub demand3-in-c : Demand3 ns d
   demand3-in-c = record { answers = run-like .said ∙ demand3 d p .answers; completes = demand3 d p .completes }
+
+-- ---- at both ends
+
+module _ (ns : List ℕ) (long : length ns ≡ 74) where
+  lends-most : Lends ns most
+  unfolding most
+  lends-most = record { long = long; buffer = bytes-zeros 240 }
+
+  pub ends-in-c : Ends ns
+  ends-in-c = record {
+    least = run-like ns least (empty-complete .premises) (record { long = long; buffer = bytes-zeros 240 }) .said ∙ empty-complete .answers;
+    most = run-like ns most (most-met .premises) lends-most .said ∙ most-met .answers;
+  }

@@ -2,7 +2,7 @@
 -- definitions that their promises cite and in the words of crates/wire/specs/Demand3.antt. `proofs/Delivery.antt` proves it of
 -- every delivery. Assumes nothing.
 use mathlib.Core.Path.{_≡_}
-use mathlib.Core.List.{List, []}
+use mathlib.Core.List.{List, [], _∷_, _++_}
 use Prim.Native.Nat.{ℕ}
 use lib.ListN.{length}
 use Rattle.cobs.specs.Code.{Bytes}
@@ -11,6 +11,7 @@ use Rattle.wire.specs.Again.{Received, Run, drive}
 use Rattle.wire.specs.Receive.{Seen}
 use Rattle.wire.specs.Batch.{Item, expectedAll}
 use Rattle.wire.specs.Demand3.{Delivery, Completes}
+use Rattle.wire.specs.Edges.{completeWith, widest, fifteens, most, least}
 use Rattle.numbers.specs.Numbers.{wireIn}
 use Rattle.capi.specs.Stream.{openState, receiveTold, receiveConsumed, receiveState, receiveBuffer, receiveTable, stateTold, stateTotal}
 
@@ -63,3 +64,8 @@ pub record Lends (numbers : List ℕ) (d : Delivery) : Type 0 where
 pub record Demand3 (numbers : List ℕ) (d : Delivery) : Type 0 where
   pub answers : run numbers d .said ≡ expectedAll (d .batch) [] (d .frames)
   pub completes : (arrived : List Item) → Completes (d .batch) arrived
+
+-- At both ends of its range (crates/wire/specs/Edges.antt), on any list of as many numbers: nothing at all, and the most of everything.
+pub record Ends (numbers : List ℕ) : Type 0 where
+  pub least : run numbers least .said ≡ completeWith 0 0 ∷ []
+  pub most : run numbers most .said ≡ expectedAll widest [] (fifteens 273 0) ++ completeWith 4_096_000_000 4_096 ∷ []

@@ -4,7 +4,7 @@ use mathlib.Core.List.{List, [], _∷_, _++_}
 use Prim.Native.Nat.{ℕ, zero, suc, _≤_, _<_}
 use native.Mathlib.Omega.{arith}
 use lib.Dec.{eqb}
-use lib.ListN.{length, getD, set, take, drop}
+use lib.ListN.{length, getD, set, take, drop, replicate}
 use Rattle.cobs.specs.Code.{Bytes, run, group, encodeIn, encode}
 use Rattle.cobs.proofs.Runs.{each-append, length-run}
 
@@ -27,6 +27,10 @@ pub bytes-set : (s : List ℕ) (i b : ℕ) → b < 256 → Bytes s → Bytes (se
 bytes-set [] i b l h = tt
 bytes-set (x ∷ s) zero b l h = (l, h .1)
 bytes-set (x ∷ s) (suc i) b l h = (h .0, bytes-set s i b l (h .1))
+
+pub bytes-zeros : (n : ℕ) → Bytes (replicate n 0)
+bytes-zeros zero = tt
+bytes-zeros (suc n) = (omega arith, bytes-zeros n)
 
 -- ---- an encoding
 

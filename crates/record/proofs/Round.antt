@@ -16,7 +16,7 @@ use Rattle.cobs.specs.Words.{if_then_else_}
 use Rattle.cobs.specs.Code.{Bytes}
 use Rattle.cobs.specs.Answers.{done, badRecord, isDone}
 use Rattle.cobs.proofs.Told.{unlike}
-use Rattle.cobs.proofs.Wide.{bytes-at}
+use Rattle.cobs.proofs.Wide.{bytes-at, bytes-zeros}
 use Rattle.record.specs.Record.{bytes16, bytes32, bits, signed, fieldsOf, bytesOf, fieldsFor, recordIn, isValid, writeTold, writtenBytes, isRecord, readOf}
 use Rattle.record.specs.declared.Fields.{Fields}
 use Rattle.record.specs.declared.Record.{Record}
@@ -264,10 +264,6 @@ fields-wide f k b =
     let weight = two-below (f .weight % 65536) (two-below (f .weight / 65536) tt) in
     two-below (f .batch) (two-below (f .index) (two-below (f .x) (two-below (f .y) (two-below (f .z) (k, (b, weight))))))
 
-zeros : (n : ℕ) → Bytes (replicate n 0)
-zeros zero = tt
-zeros (suc n) = (omega arith, zeros n)
-
 pub written-wide : (r : Record) → Bytes (writtenBytes 0 r)
 unfolding writtenBytes fieldsFor
 written-wide r = by (isDone (writeTold 0 r)) r
@@ -275,4 +271,4 @@ written-wide r = by (isDone (writeTold 0 r)) r
     by : (ok : Bool) (r : Record) → Bytes (if ok then bytesOf (fieldsFor 0 r) else replicate 16 0)
     by true (Particle b i x y z w) = fields-wide (fieldsFor 0 (Particle b i x y z w)) (omega arith) (omega arith)
     by true (Close b n t) = fields-wide (fieldsFor 0 (Close b n t)) (omega arith) (omega arith)
-    by false r = zeros 16
+    by false r = bytes-zeros 16
