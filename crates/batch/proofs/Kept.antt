@@ -35,7 +35,7 @@ module _ (P : Receiver → (t : List ℕ) → Receiver → (u : List ℕ) → Ty
   by-tests false true ea eb = rw (ea, eb) same
   by-tests false false ea eb = rw (ea, eb) (by-outcome (takeAll (length f / 16) 0 r t f) refl)
 
-  pub by-frame : P r t (acceptNext r t f) (acceptTable r t f)
+  by-frame : P r t (acceptNext r t f) (acceptTable r t f)
   unfolding acceptNext acceptTable
   by-frame = by-tests (isBad r (length t)) (isBadLength 16 240 (length f)) refl refl
 

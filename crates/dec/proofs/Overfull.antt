@@ -1,6 +1,6 @@
 -- A new decoder over a piece: TargetBufTooSmall exactly where a decoded byte has no room, and how many bytes that takes. Assumes nothing.
 use mathlib.Core.Path.{_≡_, refl, sym, ap, _∙_}
-use mathlib.Core.Bool.{true, false, false≢true}
+use mathlib.Core.Bool.{false, false≢true}
 use mathlib.Core.Logic.{⊎-elim}
 use mathlib.Core.List.{List, [], _∷_, _++_}
 use Prim.Native.Nat.{ℕ, zero, suc, _≤_, _<_}

@@ -2,43 +2,23 @@
 -- Assumes nothing.
 use mathlib.Core.Path.{_≡_, refl, sym, ap, ap₂, _∙_, subst}
 use mathlib.Core.Logic.{_≢_}
-use mathlib.Core.Bool.{true, false, true≢false}
+use mathlib.Core.Bool.{true, false}
 use mathlib.Core.List.{List, [], _∷_, _++_}
 use Prim.Native.Nat.{ℕ, zero, suc, _≤_, suc-le-suc, zero-le}
 use native.Mathlib.Nat.{not-suc-le-zero, le-of-suc-le-suc, le-refl}
 use native.Mathlib.Omega.{arith}
-use lib.Dec.{eqb, ltb}
+use lib.Dec.{eqb}
 use lib.ListN.{length, take, drop, length-drop}
 use Rattle.cobs.specs.Answers.{Told, more, isDone}
-use Rattle.dec.specs.State.{stepped}
-use Rattle.dec.specs.Stream.{Outcome, isMore, bad, resultOutcome, byteOutcome, byteDest, further, pieceOutcome, pieceDest, pushDest}
-use Rattle.dec.specs.declared.state.DecoderState.{DecoderState}
-use Rattle.dec.specs.declared.state.DecodeResult.{DecodeResult}
-use Rattle.dec.specs.declared.state.DecodeResult.the-variants.{NoData, DataStart, DataComplete, DataContinue, InvalidFrame}
+use Rattle.dec.specs.Stream.{Outcome, isMore, bad, byteOutcome, byteDest, further, pieceOutcome, pieceDest, pushDest}
 use Rattle.dec.specs.declared.stream.CobsDecoder.{CobsDecoder}
 use Rattle.dec.proofs.Cases.{by-bool}
 use Rattle.dec.proofs.Good.{good-of, of-good, good-byte, push-good}
 use Rattle.dec.proofs.Pieces.{length-byte, length-piece, piece-goes, piece-stops, dest-goes, dest-stops, byte-goes, further-keeps, further-counts, push-piece, pushDest-piece}
-use Rattle.dec.proofs.Restart.{used-within}
+use Rattle.dec.proofs.Restart.{byte-counts, used-within}
 use Rattle.wire.specs.Again as again
 use Rattle.wire.specs.Again.{Received, Said, Run, stopped, heard, andThen, joined}
 use Rattle.wire.specs.Loop.{Side, Taker, handOn, received, called, seen, run, drive}
-
--- ---- one byte and the rest of a piece
-
--- a byte at which a piece stops is one byte of it
-result-one : (place room : ℕ) (s : DecoderState) (r : DecodeResult) → isMore (resultOutcome place room s r) ≡ false
-    → resultOutcome place room s r .answer .second ≡ 1
-result-one place room s NoData e = absurd (true≢false e)
-result-one place room s DataStart e = absurd (true≢false e)
-result-one place room s DataComplete e = refl
-result-one place room s (DataContinue b) e = by-bool (ltb place room) (λ q. absurd (true≢false (rw q at e))) (λ q. rw q)
-result-one place room s InvalidFrame e = refl
-
-byte-one : (d : CobsDecoder) (room b : ℕ) → isMore (byteOutcome d room b) ≡ false → byteOutcome d room b .answer .second ≡ 1
-unfolding byteOutcome
-byte-one d room b =
-    by-bool (d .skip) (λ q. rw q (λ e. absurd (true≢false e))) (λ q. rw q (result-one (d .place) room (stepped (d .state) b .state) (stepped (d .state) b .result)))
 
 pub length-push : (d : CobsDecoder) (p m : List ℕ) → length (pushDest d p m) ≡ length m
 unfolding pushDest
@@ -124,7 +104,7 @@ module _ {S View : Type 0} (taker : Taker S View) (Fine : S → Type 0) (fit : (
 
     received-one : isMore o ≡ false → received taker w (b ∷ p) .consumed ≡ 1
     received-one e =
-        rw (received-on w g (b ∷ p), piece-stops (w .decoder) (length (w .buffer)) b p e, e) (byte-one (w .decoder) (length (w .buffer)) b e)
+        rw (received-on w g (b ∷ p), piece-stops (w .decoder) (length (w .buffer)) b p e, e) (byte-counts (w .decoder) (length (w .buffer)) b e)
 
     -- a call takes a byte or more
     pub takes : 1 ≤ received taker w (b ∷ p) .consumed
