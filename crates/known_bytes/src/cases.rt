@@ -179,13 +179,13 @@ fn answer(k: usize, n: &[usize; 6], held: Held, m: &[u8], dest: &mut [u8]) -> He
 // A message of zeros that is longer than a line's array.
 fn long(k: usize, n: &[usize; 6], held: Held, length: usize, dest: &mut [u8]) -> Held {
     let zeros = [0u8; 1_048_577];
-    if 1_048_577 < length {
+    if read::MOST_ZEROS < length {
         return held;
     }
     answer(k, n, held, &zeros[0..length], dest)
 }
 
-// The same, on the parts of the arrays that count.
+// Any call, on the parts of the arrays that count.
 fn cut(
     k: usize,
     n: &[usize; 6],

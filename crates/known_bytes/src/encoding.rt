@@ -42,7 +42,8 @@ fn plain(k: usize, m: &[u8], dest: &mut [u8]) -> Encoded {
     }
 }
 
-/// `encode of MESSAGE on BUFFER` and its like, `encode_with_sentinel SENTINEL of MESSAGE on BUFFER`, `encode_two CUT of MESSAGE on BUFFER`.
+/// `encode of MESSAGE on BUFFER` and its like, `encode_with_sentinel SENTINEL of MESSAGE on BUFFER`,
+/// `encode_two CUT of MESSAGE on BUFFER`.
 pub(crate) fn run(k: usize, n: usize, m: &[u8], dest: &mut [u8]) {
     if k == 5 {
         holding::run(n, m, dest);

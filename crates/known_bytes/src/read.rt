@@ -10,10 +10,11 @@ const UNREAD: usize = 9;
 // The most bytes of a message, and of a buffer.
 const MOST: usize = 65_552;
 
-// The most zeros of a message that is zeros alone: one more than the longest that can be encoded.
-const MOST_ZEROS: usize = 1_048_577;
+/// The most zeros of a message that is zeros alone: one more than the longest that can be encoded.
+pub(crate) const MOST_ZEROS: usize = 1_048_577;
 
-/// Bytes and how many of them count; zeros alone may be more than the array holds. By value, since a check's time goes with what is lent as `&mut`.
+/// Bytes and how many of them count; zeros alone may be more than the array holds. By value, since a check's time goes with what is
+/// lent as `&mut`.
 pub(crate) struct Bytes {
     pub all: [u8; 65_552],
     pub len: usize,

@@ -89,12 +89,13 @@ pub(crate) fn bytes(s: &[u8]) {
     }
 }
 
+/// What the buffer holds after a call.
 pub(crate) fn holds(s: &[u8]) {
     word(words::HOLDS);
     bytes(s);
 }
 
-/// The same of a call that answers nothing.
+/// The same after a call that answers nothing.
 pub(crate) fn left(s: &[u8]) {
     word(words::UNIT);
     holds(s);
