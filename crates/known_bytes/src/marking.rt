@@ -3,22 +3,16 @@ use crate::say;
 use crate::words;
 use marks::Marks;
 
-fn shown(marks: &Marks) {
+fn shown(marks: Marks) -> Marks {
     say::word(words::MARKS);
-    say::numbers(marks);
-}
-
-fn none() -> Marks {
-    let m = marks::none();
-    shown(&m);
-    m
+    say::numbers(&marks);
+    marks
 }
 
 fn marked(marks: Marks, i: usize) -> Marks {
     let mut m = marks;
     marks::mark(&mut m, i);
-    shown(&m);
-    m
+    shown(m)
 }
 
 // The calls that change nothing.
@@ -39,7 +33,7 @@ fn ask(k: usize, i: usize, marks: &Marks) {
 /// `marks::none`, `marks::mark INDEX`, `marks::is_marked INDEX`, `marks::count`, `marks::count_below INDEX`.
 pub(crate) fn run(k: usize, i: usize, marks: Marks) -> Marks {
     match k {
-        0 => none(),
+        0 => shown(marks::none()),
         1 => marked(marks, i),
         _ => {
             ask(k, i, &marks);
