@@ -4,20 +4,13 @@ use crate::words;
 use blocks::Taken;
 
 fn taken(found: Taken) {
-    match found {
-        Taken::Nothing => {
-            say::word(words::NOTHING);
-        }
-        Taken::Clear => {
-            say::word(words::CLEAR);
-        }
-        Taken::Zeros => {
-            say::word(words::ZEROS);
-        }
-        Taken::Mixed => {
-            say::word(words::MIXED);
-        }
-    }
+    let k = match found {
+        Taken::Nothing => words::NOTHING,
+        Taken::Clear => words::CLEAR,
+        Taken::Zeros => words::ZEROS,
+        Taken::Mixed => words::MIXED,
+    };
+    say::word(k);
 }
 
 /// `clear16 AT of BYTES`, `all16 AT VALUE of BYTES`, `take16 AT FROM of SOURCE on BUFFER`, `copy16 AT FROM of SOURCE on BUFFER`,
