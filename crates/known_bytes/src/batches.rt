@@ -92,6 +92,11 @@ fn accept(r: Receiver, frame: &[u8], table: &mut [u8]) -> Receiver {
     next
 }
 
+fn stands(r: Receiver, table: &[u8]) -> Receiver {
+    standing(batch::stands(r, table));
+    r
+}
+
 fn taken(count: usize, total: usize) -> Close {
     Close::Taken {
         count,
@@ -113,14 +118,15 @@ fn set(n: &[usize; 6], close: Close, table: &[u8]) -> Receiver {
     r
 }
 
-/// `batch::open BATCH on TABLE`, `batch::accept of FRAME`; and a receiver of given numbers,
+/// `batch::open BATCH on TABLE`, `batch::accept of FRAME`, `batch::stands on TABLE`; and a receiver of given numbers,
 /// `Receiver BATCH SLOTS TOTAL MARKS`, with the marks of the first 64 indices as a number, or with COUNT TOTAL of a close
 /// after them, also with `on TABLE`.
 pub(crate) fn run(k: usize, n: &[usize; 6], r: Receiver, m: &[u8], table: &mut [u8]) -> Receiver {
     match k {
         0 => open(n[0], table),
         1 => accept(r, m, table),
-        2 | 3 => set(n, Close::Not, table),
+        2 => stands(r, table),
+        3 | 4 => set(n, Close::Not, table),
         _ => set(n, taken(n[4], n[5]), table),
     }
 }

@@ -5,18 +5,22 @@ use crate::decoding;
 use crate::encoding;
 use crate::feeding;
 use crate::lengths;
+use crate::marking;
+use crate::naming;
 use crate::read;
 use crate::read::Bytes;
 use crate::read::Case;
 use crate::records;
 use crate::say;
 use crate::streaming;
+use crate::tools;
 use crate::wires;
 use crate::wires::Side;
 use crate::words;
 use batch::Receiver;
 use dec::stream::CobsDecoder;
 use enc::stream::Encoder;
+use marks::Marks;
 use wire::Wire;
 
 // Where each module's calls start in the list.
@@ -26,20 +30,26 @@ const DECODING: usize = 8;
 
 const ALONE: usize = 13;
 
-const STREAMING: usize = 16;
+const TOOLS: usize = 16;
 
-const FEEDING: usize = 21;
+const STREAMING: usize = 22;
 
-const RECORDS: usize = 30;
+const FEEDING: usize = 28;
 
-const UNKNOWN: usize = 44;
+const MARKING: usize = 38;
+
+const RECORDS: usize = 43;
+
+const UNKNOWN: usize = 61;
 
 // The same from the records on.
-const FRAMES: usize = 4;
+const FRAMES: usize = 5;
 
-const BATCHES: usize = 5;
+const BATCHES: usize = 6;
 
-const WIRES: usize = 11;
+const WIRES: usize = 13;
+
+const NAMING: usize = 16;
 
 // Each name with how many numbers it takes, and its parts: 1 is `of`, 2 is `on`, and 3 is both.
 fn number(name: &[u8], count: usize, parts: usize) -> usize {
@@ -52,20 +62,23 @@ fn number(name: &[u8], count: usize, parts: usize) -> usize {
         encode_two13 \
         decode03 decode_in_place02 decode_in_place_report02 decode_with_sentinel13 decode_in_place_with_sentinel12 \
         EncoderState::new00 EncoderState::push21 EncoderState::finalize20 \
-        Encoder::start02 Encoder::push01 Encoder::finalize00 Encoder40 Encoder42 \
-        CobsDecoder::push01 CobsDecoder::feed01 DecoderState::feed01 \
+        clear1611 all1621 take1623 copy1623 fill1622 mask22 \
+        Encoder::start02 Encoder::push01 Encoder::finalize00 Encoder::new00 Encoder40 Encoder42 \
+        CobsDecoder::push01 CobsDecoder::feed01 DecoderState::feed01 DecoderState::step01 \
         CobsDecoder::new02 DecoderState::new00 DecoderState::Grab10 DecoderState::GrabChain10 CobsDecoder20 CobsDecoder22 \
-        write_particle60 write_close30 read11 class_of20 write_frame03 \
-        batch::open12 batch::accept01 Receiver40 Receiver42 Receiver60 Receiver62 \
-        Wire::open12 wire::receive11 Wire::decoder10",
+        marks::none00 marks::mark10 marks::is_marked10 marks::count00 marks::count_below10 \
+        write_particle60 write_close30 read11 class_of20 is_bad_length10 write_frame03 \
+        batch::open12 batch::accept01 batch::stands02 Receiver40 Receiver42 Receiver60 Receiver62 \
+        Wire::open12 wire::receive11 Wire::decoder10 numbers::write10 numbers::read30",
     )
 }
 
-/// What stays from line to line beside the buffer: the streaming states, and the receiving side.
+/// What stays from line to line beside the buffer: the streaming states, the receiving side, and marks of their own.
 pub(crate) struct Held {
     pub encoder: Encoder,
     pub decoder: CobsDecoder,
     pub side: Side,
+    pub marks: Marks,
 }
 
 /// What is held after a line, and the buffer.
@@ -81,21 +94,24 @@ fn once(k: usize, n: &[usize; 6], m: &[u8], dest: &mut [u8]) {
         lengths::run(k, first);
         return;
     }
+    if TOOLS <= k {
+        tools::run(k - TOOLS, first, n[1], m, dest);
+        return;
+    }
     if ALONE <= k {
         alone::run(k - ALONE, first, (n[1] % 256) as u8, read::first(m));
         return;
     }
-    let sentinel = (first % 256) as u8;
     if k < DECODING {
-        encoding::run(k - ENCODING, sentinel, m, dest);
+        encoding::run(k - ENCODING, first, m, dest);
         say::holds(dest);
         return;
     }
-    decoding::run(k - DECODING, sentinel, m, dest);
+    decoding::run(k - DECODING, (first % 256) as u8, m, dest);
     say::holds(dest);
 }
 
-// The calls of the code.
+// The calls of the code, and of marks.
 fn coded(k: usize, n: &[usize; 6], held: Held, m: &[u8], dest: &mut [u8]) -> Held {
     let mut next = held;
     if k < STREAMING {
@@ -107,8 +123,14 @@ fn coded(k: usize, n: &[usize; 6], held: Held, m: &[u8], dest: &mut [u8]) -> Hel
         next.encoder = encoder;
         return next;
     }
-    let decoder = feeding::run(k - FEEDING, n, held.decoder, m, dest);
-    next.decoder = decoder;
+    if k < MARKING {
+        let decoder = feeding::run(k - FEEDING, n, held.decoder, m, dest);
+        next.decoder = decoder;
+        return next;
+    }
+    let before = held.marks;
+    let marks = marking::run(k - MARKING, n[0], before);
+    next.marks = marks;
     next
 }
 
@@ -130,10 +152,14 @@ fn batched(k: usize, n: &[usize; 6], side: Side, m: &[u8], dest: &mut [u8]) -> S
         records::frame(m, dest);
         return side;
     }
+    let w = side.wire;
+    if NAMING <= k {
+        naming::run(k - NAMING, n, w);
+        return side;
+    }
     if WIRES <= k {
         return wires::run(k - WIRES, n[0], side, m, dest);
     }
-    let w = side.wire;
     let r = w.receiver;
     let receiver = batches::run(k - BATCHES, n, r, m, dest);
     with_receiver(side, receiver)
@@ -150,7 +176,16 @@ fn answer(k: usize, n: &[usize; 6], held: Held, m: &[u8], dest: &mut [u8]) -> He
     next
 }
 
-// The same, on the parts of the arrays that count.
+// A message of zeros that is longer than a line's array.
+fn long(k: usize, n: &[usize; 6], held: Held, length: usize, dest: &mut [u8]) -> Held {
+    let zeros = [0u8; 1_048_577];
+    if read::MOST_ZEROS < length {
+        return held;
+    }
+    answer(k, n, held, &zeros[0..length], dest)
+}
+
+// Any call, on the parts of the arrays that count.
 fn cut(
     k: usize,
     n: &[usize; 6],
@@ -160,11 +195,11 @@ fn cut(
     dest: &mut [u8],
     room: usize,
 ) -> Held {
-    if m.len() < length {
-        return held;
-    }
     if dest.len() < room {
         return held;
+    }
+    if m.len() < length {
+        return long(k, n, held, length, &mut dest[0..room]);
     }
     answer(k, n, held, &m[0..length], &mut dest[0..room])
 }

@@ -42,13 +42,15 @@ fn plain(k: usize, m: &[u8], dest: &mut [u8]) -> Encoded {
     }
 }
 
-/// `encode of MESSAGE on BUFFER` and its like, `encode_with_sentinel SENTINEL of MESSAGE on BUFFER`, `encode_two CUT of MESSAGE on BUFFER`.
-pub(crate) fn run(k: usize, sentinel: u8, m: &[u8], dest: &mut [u8]) {
+/// `encode of MESSAGE on BUFFER` and its like, `encode_with_sentinel SENTINEL of MESSAGE on BUFFER`,
+/// `encode_two CUT of MESSAGE on BUFFER`.
+pub(crate) fn run(k: usize, n: usize, m: &[u8], dest: &mut [u8]) {
     if k == 5 {
-        holding::run(sentinel as usize, m, dest);
+        holding::run(n, m, dest);
         return;
     }
     if k == 4 {
+        let sentinel = (n % 256) as u8;
         answer_with(enc::oneshot::encode_with_sentinel(m, dest, sentinel));
         return;
     }

@@ -5,6 +5,7 @@ use crate::say;
 use crate::words;
 use dec::state::DecodeResult;
 use dec::state::DecoderState;
+use dec::state::Stepped;
 use dec::stream::CobsDecoder;
 use dec::stream::PushAnswer;
 use dec::stream::Pushed;
@@ -63,9 +64,7 @@ fn result(found: DecodeResult) {
     }
 }
 
-// Through `DecoderState::feed`, which takes a reference, and `step` below it.
-fn fed(s: DecoderState, byte: u8) -> DecoderState {
-    let stepped = dec::state::fed(s, byte);
+fn given(stepped: Stepped) -> DecoderState {
     let found = stepped.result;
     let after = stepped.state;
     result(found);
@@ -145,9 +144,10 @@ fn make(k: usize, n: &[usize; 6], stands: DecoderState) -> CobsDecoder {
     }
 }
 
-/// `CobsDecoder::push of PIECE`, `CobsDecoder::feed of BYTE`, `DecoderState::feed of BYTE`; `CobsDecoder::new on BUFFER`,
-/// `DecoderState::new`, `DecoderState::Grab LEFT`, `DecoderState::GrabChain LEFT`; and a decoder of given numbers in the
-/// state that stands, `CobsDecoder PLACE SKIP`, also with `on BUFFER`.
+/// `CobsDecoder::push of PIECE`, `CobsDecoder::feed of BYTE`, `DecoderState::feed of BYTE` (through `fed`, which has the reference
+/// that `feed` takes), `DecoderState::step of BYTE`; `CobsDecoder::new on BUFFER`, `DecoderState::new`, `DecoderState::Grab LEFT`,
+/// `DecoderState::GrabChain LEFT`; and a decoder of given numbers in the state that stands, `CobsDecoder PLACE SKIP`, also with
+/// `on BUFFER`.
 pub(crate) fn run(
     k: usize,
     n: &[usize; 6],
@@ -159,7 +159,8 @@ pub(crate) fn run(
     match k {
         0 => push(d, m, dest),
         1 => feed(d, read::first(m), dest),
-        2 => at_start(fed(s, read::first(m))),
-        _ => make(k - 3, n, s),
+        2 => at_start(given(dec::state::fed(s, read::first(m)))),
+        3 => at_start(given(s.step(read::first(m)))),
+        _ => make(k - 4, n, s),
     }
 }

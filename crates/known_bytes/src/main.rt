@@ -1,4 +1,4 @@
-//! 01's known bytes, run by the compiled code: of the code, of records and batches, and of the wire. Each line of the input is a
+//! 01's known bytes, run by the compiled code, and every answer of every call below the C convention. Each line of the input is a
 //! call; it is written with the answer after it, and the whole is held to the stored output. A line that starts with `#` is a heading;
 //! one that cannot be read is answered so. A number is taken modulo its field's size.
 mod alone;
@@ -9,16 +9,18 @@ mod encoding;
 mod feeding;
 mod holding;
 mod lengths;
+mod marking;
+mod naming;
 mod read;
 mod records;
 mod say;
 mod streaming;
+mod tools;
 mod wires;
 mod words;
 
 use cases::Held;
 use dec::stream::CobsDecoder;
-use enc::state::EncoderState;
 use enc::stream::Encoder;
 use libc::STDIN_FILENO;
 use read::Bytes;
@@ -34,17 +36,15 @@ fn start_side() -> Side {
 }
 
 fn start() -> Held {
-    let encoder = Encoder {
-        state: EncoderState::new(),
-        full: false,
-        count: 0,
-    };
+    let encoder = Encoder::new();
     let decoder = CobsDecoder::new();
     let side = start_side();
+    let marks = marks::none();
     Held {
         encoder,
         decoder,
         side,
+        marks,
     }
 }
 

@@ -1,5 +1,6 @@
 //! A case: the words of a line after its name. First decimal numbers; after `of` the bytes that are read; after `on` the
-//! buffer that is written. Bytes are in hexadecimal, `254*01` is a row of equal ones, and `-` is none.
+//! buffer that is written. Bytes are in hexadecimal, `254*01` is a row of equal ones, and `-` is none. What is read may also be a
+//! longer row of zeros alone.
 use crate::words;
 ghost use Prim.Native.Nat.{_≤_};
 
@@ -9,7 +10,11 @@ const UNREAD: usize = 9;
 // The most bytes of a message, and of a buffer.
 const MOST: usize = 65_552;
 
-/// Bytes and how many of them count. By value, since a check's time goes with what is lent as `&mut`.
+/// The most zeros of a message that is zeros alone: one more than the longest that can be encoded.
+pub(crate) const MOST_ZEROS: usize = 1_048_577;
+
+/// Bytes and how many of them count; zeros alone may be more than the array holds. By value, since a check's time goes with what is
+/// lent as `&mut`.
 pub(crate) struct Bytes {
     pub all: [u8; 65_552],
     pub len: usize,
@@ -114,6 +119,14 @@ fn bad(bytes: Bytes) -> Grown {
     Grown { good: false, bytes }
 }
 
+// More than the array holds, from its start on, where it holds zeros.
+fn zeros(bytes: Bytes, n: usize, b: usize) -> Grown {
+    let all = bytes.all;
+    let good = bytes.len == 0 && b == 0 && n <= MOST_ZEROS;
+    let after = Bytes { all, len: n };
+    Grown { good, bytes: after }
+}
+
 // The bytes with n more, where they fit.
 fn more(bytes: Bytes, n: usize, b: usize) -> Grown {
     let at = bytes.len;
@@ -124,7 +137,7 @@ fn more(bytes: Bytes, n: usize, b: usize) -> Grown {
         return bad(bytes);
     }
     if MOST - at < n {
-        return bad(bytes);
+        return zeros(bytes, n, b);
     }
     let to = at + n;
     let before = bytes.all;
@@ -239,14 +252,16 @@ pub(crate) fn read(line: &[u8], from: usize, stands: Bytes) -> Case {
     };
     let m = part(line, n.at, b"of", 1, none);
     let d = part(line, m.at, b"on", 2, stands);
+    let numbers = n.numbers;
+    let message = m.bytes;
+    let buffer = d.bytes;
     let parts = if d.at < line.len() {
+        UNREAD
+    } else if MOST < buffer.len {
         UNREAD
     } else {
         m.parts % 2 + d.parts % 4
     };
-    let numbers = n.numbers;
-    let message = m.bytes;
-    let buffer = d.bytes;
     Case {
         parts,
         numbers,

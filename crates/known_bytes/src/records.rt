@@ -141,7 +141,7 @@ pub(crate) fn frame(message: &[u8], dest: &mut [u8]) {
 }
 
 /// `write_particle BATCH INDEX X Y Z WEIGHT`, `write_close BATCH COUNT TOTAL`, `read AT of BYTES`,
-/// `class_of THEIRS OURS`. A number is taken modulo its field's size.
+/// `class_of THEIRS OURS`, `is_bad_length LENGTH`. A number is taken modulo its field's size.
 pub(crate) fn run(k: usize, n: &[usize; 6], m: &[u8]) {
     match k {
         0 => {
@@ -153,8 +153,11 @@ pub(crate) fn run(k: usize, n: &[usize; 6], m: &[u8]) {
         2 => {
             read(n[0], m);
         }
-        _ => {
+        3 => {
             class(n[0], n[1]);
+        }
+        _ => {
+            say::flag(record::frame::is_bad_length(n[0]));
         }
     }
 }

@@ -28,7 +28,7 @@ pub(crate) fn word(k: usize) {
         Grab |GrabChain |Ready|Done|BadLength|BadRecord|Stale|Ahead|NoRoom|BeyondClose|Conflict|Open|Missing|\
         Complete|Differs|Ours|particle |close | index | weight | count | total |, written |batch |, slots |\
         , total |, stands |; total |place | code | full| skip|frame |, parsed |, consumed |size |, |; |;| |\
-        ; holds|: |cannot read line | -|*",
+        ; holds|: |cannot read line | -|*|true|false|Nothing|Clear|Zeros|Mixed|()|marks|named;|none;",
         k,
     );
 }
@@ -37,6 +37,10 @@ pub(crate) fn word(k: usize) {
 pub(crate) fn named(k: usize, n: usize) {
     word(k);
     number(n);
+}
+
+pub(crate) fn flag(b: bool) {
+    word(if b { words::TRUE } else { words::FALSE });
 }
 
 /// An answer and the number that it carries.
@@ -62,14 +66,13 @@ fn same(s: &[u8], from: usize) -> usize
     n
 }
 
-// A byte, or so many of it in a row.
-fn row(b: u8, n: usize) {
+// How many of what comes next stand in a row.
+fn row(n: usize) {
     word(words::SPACE);
     if 1 < n {
         number(n);
         word(words::TIMES);
     }
-    byte(b);
 }
 
 /// The bytes in hexadecimal, a row of equal ones as its length and the byte; `-` for none.
@@ -80,12 +83,49 @@ pub(crate) fn bytes(s: &[u8]) {
     let mut i = 0;
     while i < s.len() {
         let n = same(s, i);
-        row(s[i], n);
+        row(n);
+        byte(s[i]);
         i += n;
     }
 }
 
+/// What the buffer holds after a call.
 pub(crate) fn holds(s: &[u8]) {
     word(words::HOLDS);
     bytes(s);
+}
+
+/// The same after a call that answers nothing.
+pub(crate) fn left(s: &[u8]) {
+    word(words::UNIT);
+    holds(s);
+}
+
+// Number i, if a row of n ends with it; how many there are with the next.
+fn counted(s: &[u64], i: usize, n: usize) -> usize
+    requires { ⌜ (i < length (now s)) × (n ≤ i + 1) ⌝ }
+    ensures { λ r. ⌜ r ≤ i + 2 ⌝ }
+{
+    let here = s[i];
+    if i + 1 < s.len() {
+        if s[i + 1] == here {
+            return n + 1;
+        }
+    }
+    row(n);
+    number(here as usize);
+    1
+}
+
+/// Numbers in decimal, a row of equal ones as its length and the number; `-` for none.
+pub(crate) fn numbers(s: &[u64]) {
+    if s.len() == 0 {
+        word(words::NONE);
+    }
+    let mut n = 1;
+    let mut i = 0;
+    while i < s.len() {
+        n = counted(s, i, n);
+        i += 1;
+    }
 }

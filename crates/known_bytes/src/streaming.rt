@@ -31,6 +31,12 @@ fn set(n: &[usize; 6]) -> Encoder {
     encoder
 }
 
+fn new() -> Encoder {
+    let encoder = Encoder::new();
+    shown(encoder);
+    encoder
+}
+
 fn start(e: Encoder, dest: &[u8]) -> Encoder {
     let Started::Ready(encoder) = Encoder::start(dest) else {
         say::word(words::DEST_BUF_TOO_SMALL);
@@ -85,13 +91,14 @@ fn finish(e: Encoder, dest: &mut [u8]) -> Encoder {
     e
 }
 
-/// `Encoder::start on BUFFER`, `Encoder::push of PIECE`, `Encoder::finalize`; and an encoder of given numbers,
+/// `Encoder::start on BUFFER`, `Encoder::push of PIECE`, `Encoder::finalize`, `Encoder::new`; and an encoder of given numbers,
 /// `Encoder PLACE CODE FULL COUNT`, also with `on BUFFER`.
 pub(crate) fn run(k: usize, n: &[usize; 6], e: Encoder, m: &[u8], dest: &mut [u8]) -> Encoder {
     match k {
         0 => start(e, dest),
         1 => push(e, m, dest),
         2 => finish(e, dest),
+        3 => new(),
         _ => set(n),
     }
 }

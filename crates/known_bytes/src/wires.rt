@@ -130,7 +130,7 @@ fn with_wire(held: Side, wire: Wire) -> Side {
     Side { wire, buffer }
 }
 
-/// `Wire::open BATCH on TABLE`, `wire::receive ROOM of PIECE` with so many bytes for the decoder, and `CobsDecoder PLACE`.
+/// `Wire::open BATCH on TABLE`, `wire::receive ROOM of PIECE` with so many bytes for the decoder, and `Wire::decoder PLACE`.
 pub(crate) fn run(k: usize, n: usize, held: Side, m: &[u8], table: &mut [u8]) -> Side {
     match k {
         0 => with_wire(held, open(n, table)),

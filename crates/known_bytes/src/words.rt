@@ -126,6 +126,26 @@ pub(crate) const NONE: usize = 59;
 
 pub(crate) const TIMES: usize = 60;
 
+pub(crate) const TRUE: usize = 61;
+
+pub(crate) const FALSE: usize = 62;
+
+pub(crate) const NOTHING: usize = 63;
+
+pub(crate) const CLEAR: usize = 64;
+
+pub(crate) const ZEROS: usize = 65;
+
+pub(crate) const MIXED: usize = 66;
+
+pub(crate) const UNIT: usize = 67;
+
+pub(crate) const MARKS: usize = 68;
+
+pub(crate) const NAMED: usize = 69;
+
+pub(crate) const NOT_NAMED: usize = 70;
+
 /// Where the byte stands first from `from` on, or the end.
 pub(crate) fn find(s: &[u8], from: usize, byte: u8) -> usize
     requires { ⌜ from ≤ length (now s) ⌝ }
