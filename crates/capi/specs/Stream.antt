@@ -35,12 +35,15 @@ openFound ns batch n = readBack ns (start batch n)
 abbrev pub call : (ns buffer table piece : List ℕ) → Received (Side End)
 call ns buffer table piece = received accepting (calls (wireIn ns) buffer table) piece
 
+-- Its answer.
 unfoldable pub receiveTold : (ns buffer table piece : List ℕ) → Told
 receiveTold ns buffer table piece = if names ns then call ns buffer table piece .answer else badState
 
+-- How many bytes of the piece it took.
 unfoldable pub receiveConsumed : (ns buffer table piece : List ℕ) → ℕ
 receiveConsumed ns buffer table piece = if names ns then call ns buffer table piece .consumed else 0
 
+-- The numbers of the states that it left.
 unfoldable pub receiveState : (ns buffer table piece : List ℕ) → List ℕ
 receiveState ns buffer table piece = if names ns then numbersOf (wireOf (call ns buffer table piece .side)) else ns
 
@@ -48,14 +51,17 @@ receiveState ns buffer table piece = if names ns then numbersOf (wireOf (call ns
 unfoldable pub receiveFound : (ns buffer table piece : List ℕ) → Found
 receiveFound ns buffer table piece = if names ns then record { named = true; wire = wireOf (call ns buffer table piece .side) } else unnamed
 
+-- The bytes to decode into, as it left them.
 unfoldable pub receiveBuffer : (ns buffer table piece : List ℕ) → List ℕ
 receiveBuffer ns buffer table piece = if names ns then call ns buffer table piece .side .buffer else buffer
 
+-- The table, as it left it.
 unfoldable pub receiveTable : (ns buffer table piece : List ℕ) → List ℕ
 receiveTable ns buffer table piece = if names ns then call ns buffer table piece .side .state .table else table
 
 -- ---- stands, with a table of n bytes
 
+-- What `stands` says of the receiver that the numbers name.
 unfoldable pub stateTold : (ns : List ℕ) (n : ℕ) → Told
 stateTold ns n = if names ns then standsTold (wireIn ns .receiver) n else badState
 

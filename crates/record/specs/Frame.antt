@@ -31,6 +31,7 @@ messageTold size most m =
 unfoldable pub framed : (m : List ℕ) → List ℕ
 framed m = encode m ++ 0 ∷ []
 
+-- What the frame writer answers, told.
 abbrev pub toldFrame : FrameWritten → Told
 toldFrame (frame.Length n) = done n 0
 toldFrame frame.BadLength = badLength

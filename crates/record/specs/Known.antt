@@ -30,6 +30,7 @@ given (written r _ bytes _ _ encoding) =
 abbrev pub particle : Record
 particle = Particle 1 0 (negsuc 0) (pos 0) (pos 64) 1_000
 
+-- 01's list.
 abbrev pub examples : List Example
 examples =
     map ofCode code.examples

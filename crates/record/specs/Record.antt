@@ -23,6 +23,7 @@ use Rattle.record.specs.declared.Class.the-variants.{Ours, Ahead, Stale}
 abbrev pub word16 : List ℕ → (at : ℕ) → ℕ
 word16 s at = getD s at 0 + 256 * getD s (at + 1) 0
 
+-- The same of four bytes.
 abbrev pub word32 : List ℕ → (at : ℕ) → ℕ
 word32 s at = word16 s at + 65_536 * word16 s (at + 2)
 
@@ -30,6 +31,7 @@ word32 s at = word16 s at + 65_536 * word16 s (at + 2)
 abbrev pub bytes16 : ℕ → List ℕ
 bytes16 n = n % 256 ∷ n / 256 % 256 ∷ []
 
+-- Four of them.
 abbrev pub bytes32 : ℕ → List ℕ
 bytes32 n = bytes16 (n % 65_536) ++ bytes16 (n / 65_536)
 
@@ -38,6 +40,7 @@ abbrev pub bits : ℤ → ℕ
 bits (pos n) = n
 bits (negsuc n) = 65_536 - suc n
 
+-- The number that 16 bits stand for.
 abbrev pub signed : ℕ → ℤ
 signed n = if leb 32_768 n then negsuc (65_536 - suc n) else pos n
 
@@ -69,6 +72,7 @@ fieldsFor board (Particle batch index x y z weight) =
 fieldsFor board (Close batch count total) =
     record { batch = batch; index = count; x = 0; y = 0; z = 0; kind = 2; board = board; weight = total }
 
+-- The record in some fields, by their kind.
 unfoldable pub recordIn : Fields → Record
 recordIn f =
     if eqb (f .kind) 1 then Particle (f .batch) (f .index) (signed (f .x)) (signed (f .y)) (signed (f .z)) (f .weight)
@@ -90,6 +94,7 @@ isValid board f = eqb (f .board) board && (isParticle f || isClose f)
 
 -- ---- The writer and the reader
 
+-- What the writer answers, told.
 abbrev pub toldWrite : WriteAnswer → Told
 toldWrite write.Done = done 0 0
 toldWrite write.BadRecord = badRecord 0
@@ -115,6 +120,7 @@ abbrev pub toldRead : ReadAnswer → Told
 toldRead (read.Good r) = done 0 0
 toldRead read.BadRecord = badRecord 0
 
+-- Done, or BadRecord.
 unfoldable pub readTold : (board : ℕ) (s : List ℕ) → Told
 readTold board s = if isRecord board s then done 0 0 else badRecord 0
 
@@ -124,9 +130,11 @@ readTold board s = if isRecord board s then done 0 0 else badRecord 0
 abbrev pub classFor : (difference : ℕ) → Class
 classFor difference = if eqb difference 0 then Ours else if leb difference 32_767 then Ahead else Stale
 
+-- By the two batch numbers.
 unfoldable pub classOf : (theirs ours : ℕ) → Class
 classOf theirs ours = classFor ((theirs + (65_536 - ours)) % 65_536)
 
+-- Ours is done; the others are refusals 10 and 9.
 abbrev pub toldClass : Class → Told
 toldClass Ours = done 0 0
 toldClass Ahead = ahead 0

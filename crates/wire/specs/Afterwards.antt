@@ -17,10 +17,11 @@ abbrev pub items : (frames : List (List Item)) → List Item
 items [] = []
 items (frame ∷ frames) = frame ++ items frames
 
--- The receiver and its table after the last call.
+-- The receiver after the last call.
 abbrev pub receiverAfter : Delivery → Receiver
 receiverAfter d = run d .side .state .receiver
 
+-- And its table.
 abbrev pub tableAfter : Delivery → List ℕ
 tableAfter d = run d .side .state .table
 

@@ -57,10 +57,11 @@ module _ {S View : Type 0} (taker : Taker S View) (hand : ℕ → S → S) where
   abbrev pub seen : Side S → View
   seen w = taker .shows (w .state)
 
-  -- One piece, and piece after piece.
+  -- One piece.
   abbrev pub run : (k : ℕ) → Side S → (piece : List ℕ) → Run (Side S) View
   run k w piece = again.run called seen k w piece
 
+  -- Piece after piece.
   abbrev pub drive : (k : ℕ) → Side S → (pieces : List (List ℕ)) → Run (Side S) View
   drive k w pieces = again.drive called seen k w pieces
 
