@@ -14,6 +14,7 @@ use Rattle.batch.specs.declared.judge.Effect.{Effect}
 use Rattle.batch.specs.declared.judge.Verdict.{Verdict}
 use Rattle.batch.specs.declared.judge.Verdict.the-variants.{Take, Refuse}
 
+-- What `accept` answers, told.
 abbrev pub told : Answer → Told
 told BadState = badState
 told BadLength = badLength
@@ -65,15 +66,19 @@ abbrev pub nextAfter : Receiver → Outcome → Receiver
 nextAfter r (refused answer) = r
 nextAfter r (taken next table) = next
 
+-- The table after it.
 abbrev pub tableAfter : (table : List ℕ) → Outcome → List ℕ
 tableAfter table (refused answer) = table
 tableAfter table (taken next left) = left
 
+-- What `accept` answers to a frame.
 unfoldable pub acceptTold : Receiver → (table frame : List ℕ) → Told
 acceptTold r table frame = outcomeTold (outcome r table frame)
 
+-- The state that it leaves.
 unfoldable pub acceptNext : Receiver → (table frame : List ℕ) → Receiver
 acceptNext r table frame = nextAfter r (outcome r table frame)
 
+-- The table that it leaves.
 unfoldable pub acceptTable : Receiver → (table frame : List ℕ) → List ℕ
 acceptTable r table frame = tableAfter table (outcome r table frame)

@@ -46,6 +46,7 @@ abbrev pub limitBy : (slots : ℕ) → Close → ℕ
 limitBy slots Not = slots
 limitBy slots (Taken count total) = count
 
+-- Where the indices that may be taken end.
 unfoldable pub limit : Receiver → ℕ
 limit r = limitBy (r .slots) (r .close)
 
@@ -58,6 +59,7 @@ isBad r n =
 
 -- ---- How a batch stands
 
+-- What `stands` answers, told.
 abbrev pub toldStanding : Standing → Told
 toldStanding BadState = badState
 toldStanding Open = stillOpen
@@ -71,6 +73,7 @@ standBy marked sum Not = stillOpen
 standBy marked sum (Taken count total) =
     if count exceeds marked then missing (count - marked) else if eqb sum total then complete else differs
 
+-- By the marks, the total and the close.
 unfoldable pub standTold : Receiver → Told
 standTold r = standBy (markedIn r) (r .total) (r .close)
 

@@ -48,6 +48,7 @@ abbrev pub onOurs : (k : ℕ) → Receiver → Record → Verdict
 onOurs k r (kind.Particle batch index x y z weight) = onParticle k r index weight
 onOurs k r (kind.Close batch count total) = onClose k r count total
 
+-- A record's batch number.
 abbrev pub batchIn : Record → ℕ
 batchIn (kind.Particle batch index x y z weight) = batch
 batchIn (kind.Close batch count total) = batch

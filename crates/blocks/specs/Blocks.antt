@@ -27,9 +27,11 @@ flag t = if t then 0 else 1
 abbrev pub sixteen : (p : ℕ → Bool) → List ℕ → (at : ℕ) → Bool
 sixteen p s at = if stands (length s) at then each p (take 16 (drop at s)) else false
 
+-- None is zero.
 unfoldable pub isClear : List ℕ → (at : ℕ) → Bool
 isClear s at = sixteen (λ b. not (eqb b 0)) s at
 
+-- Each is v.
 unfoldable pub isAll : (v : ℕ) → List ℕ → (at : ℕ) → Bool
 isAll v s at = sixteen (λ b. eqb b v) s at
 

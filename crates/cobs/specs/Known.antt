@@ -15,6 +15,7 @@ pub data Example : Type 0 where
   decoding : (src : List ℕ) (answer : Told) (bytes : List ℕ) → Example
   inPlace : (buffer : List ℕ) (answer : Told) → Example
 
+-- With the length of its bytes for the answer.
 abbrev encodes : (m bytes : List ℕ) → Example
 encodes m bytes = encoding m (done (length bytes) 0) bytes
 
@@ -24,9 +25,11 @@ given (encoding m _ bytes) = encoding m (encodeTold plain m (length bytes)) (enc
 given (decoding src _ _) = decoding src (decodeTold src 1) (decodeDest src (0 ∷ []))
 given (inPlace buffer _) = inPlace buffer (inPlaceTold buffer)
 
+-- 01 so many times.
 abbrev ones : ℕ → List ℕ
 ones n = replicate n 0x01
 
+-- 01's list.
 abbrev pub examples : List Example
 examples =
     encodes [] (0x01 ∷ [])

@@ -6,6 +6,7 @@ use Rattle.cobs.specs.Answers.{Told, done, tooLong, longest}
 use Rattle.cobs.specs.declared.Length.{Length}
 use Rattle.cobs.specs.declared.Length.the-variants.{Bytes, TooLong}
 
+-- What both calls answer, told.
 abbrev pub told : Length → Told
 told (Bytes n) = done n 0
 told TooLong = tooLong
@@ -14,5 +15,6 @@ told TooLong = tooLong
 unfoldable pub overheadTold : ℕ → Told
 overheadTold n = if n exceeds longest then tooLong else done (overhead n) 0
 
+-- The same of the whole length.
 unfoldable pub lengthTold : ℕ → Told
 lengthTold n = if n exceeds longest then tooLong else done (maxLength n) 0

@@ -11,6 +11,7 @@ use Rattle.cobs.specs.Answers.{Told, done, emptyFrame, invalidFrame, tar
 
 -- ---- Encoding: plain, with a zero before and after, and with a chosen sentinel
 
+-- How the encoding is written.
 pub data Form : Type 0 where
   plain : Form
   zerosAround : Form
@@ -84,6 +85,7 @@ inPlaceTold buffer =
     else if read (body buffer) .whole then done (length (read (body buffer) .groups)) (length (body buffer))
     else invalidFrame (length (read (body buffer) .groups)) 0
 
+-- The buffer afterwards: the whole groups' bytes at its front, the rest untouched.
 unfoldable pub inPlaceDest : (buffer : List ℕ) → List ℕ
 inPlaceDest buffer = over (read (body buffer) .groups) buffer
 
@@ -95,6 +97,7 @@ sizeAlone t = if isDone t then done (t .first) 0 else t
 abbrev pub inRoom : (room : ℕ) → Told → Told
 inRoom room t = if not (isDone t) then t else if t .first exceeds room then targetBufTooSmall 0 else t
 
+-- By the in-place rule of the source, XORed.
 unfoldable pub withSentinelTold : (sentinel : ℕ) (src : List ℕ) (room : ℕ) → Told
 withSentinelTold sentinel src room = inRoom room (sizeAlone (inPlaceTold (masked sentinel src)))
 

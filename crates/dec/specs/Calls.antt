@@ -4,6 +4,7 @@ use Rattle.cobs.specs.Answers.{Told, done, emptyFrame, invalidFrame, targetBufT
 use Rattle.dec.specs.declared.decode.Decoded.{Decoded}
 use Rattle.dec.specs.declared.decode.Decoded.the-variants as decoded
 
+-- What `decode` answers, told.
 abbrev pub decodedTold : Decoded → Told
 decodedTold (decoded.Frame size parsed) = done size parsed
 decodedTold decoded.EmptyFrame = emptyFrame

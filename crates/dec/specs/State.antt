@@ -10,6 +10,7 @@ use Rattle.dec.specs.declared.state.DecodeResult.{DecodeResult}
 use Rattle.dec.specs.declared.state.DecodeResult.the-variants.{NoData, DataStart, DataComplete, DataContinue, InvalidFrame}
 use Rattle.dec.specs.declared.state.Stepped.{Stepped}
 
+-- The next state, and what the byte gives.
 abbrev pub gives : DecoderState → DecodeResult → Stepped
 gives s r = record { state = s; result = r }
 

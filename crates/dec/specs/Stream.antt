@@ -30,6 +30,7 @@ new = at 0 Idle
 abbrev pub skipping : CobsDecoder
 skipping = record { place = 0; skip = true; state = Idle }
 
+-- Before a body.
 abbrev pub isIdle : DecoderState → Bool
 isIdle Idle = true
 isIdle (Grab left) = false
@@ -49,12 +50,15 @@ pub record Outcome : Type 0 where
   pub next : CobsDecoder
   pub answer : Told
 
+-- More.
 abbrev pub goes : CobsDecoder → Outcome
 goes d = record { next = d; answer = more }
 
+-- A frame or a refusal.
 abbrev pub stops : CobsDecoder → Told → Outcome
 stops d t = record { next = d; answer = t }
 
+-- What `push` answers, told.
 abbrev pub told : PushAnswer → Told
 told More = more
 told (Frame size parsed) = done size parsed
@@ -62,6 +66,7 @@ told (InvalidFrame decoded consumed) = invalidFrame decoded consumed
 told (TargetBufTooSmall consumed) = targetBufTooSmall consumed
 told BadState = badState
 
+-- What a push gave, with its answer told.
 abbrev pub outcome : Pushed → Outcome
 outcome r = record { next = r .next; answer = told (r .answer) }
 
@@ -94,6 +99,7 @@ resultDest place result.DataComplete dest = dest
 resultDest place (result.DataContinue b) dest = set dest place b
 resultDest place result.InvalidFrame dest = dest
 
+-- The destination after the byte.
 unfoldable pub byteDest : CobsDecoder → (byte : ℕ) → List ℕ → List ℕ
 byteDest d b dest = if d .skip then dest else resultDest (d .place) (stepped (d .state) b .result) dest
 
@@ -107,10 +113,12 @@ further n o = if isMore o then o else stops (o .next) (tell (o .answer .number) 
 unfoldable pub joined : (first : Outcome) (n : ℕ) (second : Outcome) → Outcome
 joined first n second = if isMore first then further n second else first
 
+-- Byte by byte.
 unfoldable pub pieceOutcome : CobsDecoder → (room : ℕ) (piece : List ℕ) → Outcome
 pieceOutcome d room [] = goes d
 pieceOutcome d room (b ∷ piece) = joined (byteOutcome d room b) 1 (pieceOutcome (byteOutcome d room b .next) room piece)
 
+-- The destination after it.
 unfoldable pub pieceDest : CobsDecoder → (room : ℕ) (piece dest : List ℕ) → List ℕ
 pieceDest d room [] dest = dest
 pieceDest d room (b ∷ piece) dest =
@@ -124,5 +132,6 @@ used n o = if isMore o then n else o .answer .second
 unfoldable pub pushOutcome : CobsDecoder → (room : ℕ) (piece : List ℕ) → Outcome
 pushOutcome d room piece = if bad d room then stops d badState else pieceOutcome d room piece
 
+-- The destination after a push.
 unfoldable pub pushDest : CobsDecoder → (piece dest : List ℕ) → List ℕ
 pushDest d piece dest = if bad d (length dest) then dest else pieceDest d (length dest) piece dest

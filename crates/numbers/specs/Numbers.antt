@@ -15,35 +15,43 @@ use Rattle.numbers.specs.declared.Found.{Found}
 
 -- ---- A state's numbers: ten, then the words of the marks
 
+-- A yes or no as a number.
 abbrev pub bit : Bool → ℕ
 bit false = 0
 bit true = 1
 
+-- Which state, and the bytes left of its group.
 abbrev pub stateNumbers : DecoderState → List ℕ
 stateNumbers Idle = 0 ∷ 0 ∷ []
 stateNumbers (Grab left) = 1 ∷ left ∷ []
 stateNumbers (GrabChain left) = 2 ∷ left ∷ []
 
+-- Whether it is taken, its count and its total.
 abbrev pub closeNumbers : Close → List ℕ
 closeNumbers Not = 0 ∷ 0 ∷ 0 ∷ []
 closeNumbers (Taken count total) = 1 ∷ count ∷ total ∷ []
 
+-- The ten: the decoder, then the receiver without its marks.
 unfoldable pub headOf : Wire → List ℕ
 headOf w =
     w .decoder .place ∷ bit (w .decoder .skip) ∷ stateNumbers (w .decoder .state)
     ++ w .receiver .total ∷ closeNumbers (w .receiver .close) ++ w .receiver .slots ∷ w .receiver .batch ∷ []
 
+-- All of them.
 unfoldable pub numbersOf : Wire → List ℕ
 numbersOf w = headOf w ++ w .receiver .marks
 
 -- ---- What numbers are read as; a number that is too large for its field is cut to it
 
+-- The decoder's state.
 abbrev pub stateIn : (kind left : ℕ) → DecoderState
 stateIn kind left = if eqb kind 0 then Idle else if eqb kind 1 then Grab (left % 256) else GrabChain (left % 256)
 
+-- The receiver's close.
 abbrev pub closeIn : (taken count total : ℕ) → Close
 closeIn taken count total = if eqb taken 0 then Not else Taken count (total % 4_294_967_296)
 
+-- Both states.
 unfoldable pub wireIn : List ℕ → Wire
 wireIn ns = record {
   decoder = record { place = getD ns 0 0; skip = not (eqb (getD ns 1 0) 0); state = stateIn (getD ns 2 0) (getD ns 3 0) };
@@ -56,6 +64,7 @@ wireIn ns = record {
   };
 }
 
+-- The same numbers in the same order.
 abbrev pub same : (s t : List ℕ) → Bool
 same [] [] = true
 same [] (y ∷ t) = false
@@ -72,6 +81,7 @@ names ns = eqb (length ns) 74 && same (take 10 ns) (headOf (wireIn ns))
 abbrev pub unnamed : Found
 unnamed = record { named = false; wire = start 0 0 }
 
+-- What `read` answers.
 unfoldable pub readOf : List ℕ → Found
 readOf ns = if names ns then record { named = true; wire = wireIn ns } else unnamed
 

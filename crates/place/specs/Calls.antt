@@ -8,16 +8,19 @@ use Rattle.place.specs.declared.place.InPlace.the-variants as place
 use Rattle.place.specs.declared.sentinel.DecodedWith.{DecodedWith}
 use Rattle.place.specs.declared.sentinel.DecodedWith.the-variants as sentinel
 
+-- What `decode_in_place_report` answers, told.
 abbrev pub reportTold : Report → Told
 reportTold (report.Frame size parsed) = done size parsed
 reportTold report.EmptyFrame = emptyFrame
 reportTold (report.InvalidFrame bytes) = invalidFrame bytes 0
 
+-- The two in-place calls that answer a size alone.
 abbrev pub placeTold : InPlace → Told
 placeTold (place.Size size) = done size 0
 placeTold place.EmptyFrame = emptyFrame
 placeTold (place.InvalidFrame bytes) = invalidFrame bytes 0
 
+-- What `decode_with_sentinel` answers, told.
 abbrev pub withTold : DecodedWith → Told
 withTold (sentinel.Size size) = done size 0
 withTold sentinel.EmptyFrame = emptyFrame
