@@ -1,4 +1,6 @@
 //! What the wire means. The code itself is a definition (specs/Code.antt); here are the two functions that answer lengths.
+#![tactic(auto)]
+
 ghost use Rattle.std.specs.Prelude.{◌≡◌};
 ghost use Rattle.cobs.specs.Lengths.{told, overhead_told, length_told};
 

@@ -1,5 +1,6 @@
 //! A batch over a bad wire: a sender frames 100 particles, the wire loses, repeats, reorders and cuts, the receiver answers after
 //! each frame; what was lost is sent again until the batch is complete.
+#![tactic(auto)]
 mod receiving;
 mod say;
 mod sender;

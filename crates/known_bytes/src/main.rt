@@ -1,6 +1,7 @@
 //! 01's known bytes, run by the compiled code, and every answer of every call below the C convention. Each line of the input is a
 //! call; it is written with the answer after it, and the whole is held to the stored output. A line that starts with `#` is a heading;
 //! one that cannot be read is answered so. A number is taken modulo its field's size.
+#![tactic(auto)]
 mod alone;
 mod batches;
 mod cases;

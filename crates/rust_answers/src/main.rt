@@ -2,6 +2,7 @@
 //! and bytes: `CALL ROOM SOURCE = NUMBER FIRST SECOND DESTINATION`, with a sentinel after the call's name where it takes one, and for
 //! the streaming calls the length of the first of two pieces. The destination starts as ROOM bytes 5A; in place the source is the
 //! buffer. Bytes are in hexadecimal, - for none.
+#![tactic(auto)]
 mod calls;
 mod cases;
 mod say;

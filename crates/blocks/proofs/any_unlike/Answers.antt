@@ -1,0 +1,23 @@
+-- `blocks::any_unlike` meets its contract. Assumes nothing.
+use mathlib.Core.Path.{◌≡◌, refl}
+use Prim.Native.Nat.{◌-◌, ◌≤◌}
+use native.Mathlib.Omega.{arith}
+use lib.Dec.{eqb}
+use lib.ListN.{take}
+use borrow.Author.Rules.{rules}
+use Rattle.blocks.specs.Blocks.{each, flag}
+use Rattle.blocks.proofs.Blocks.{flag-turn, flag-end}
+use Rattle.blocks.proofs.any_unlike.Goals as goal
+
+pub loop-k-init : goal.loop-k-init
+loop-k-init c = (omega arith, refl)
+
+pub loop-k-preserved : goal.loop-k-preserved
+loop-k-preserved c =
+    let l = c in
+    (omega arith, flag-turn (λ b. eqb b l.args.v) l.args.t1 l.loop-k.k l.loop-k.found c.unlike_flag-found.result (omega arith) l.loop-k.invariant.1 c.unlike_flag-found.ensures)
+
+pub returns : goal.returns
+returns c =
+    let l = c in
+    flag-end (λ b. eqb b l.args.v) l.args.t1 l.loop-k.k l.loop-k.found (omega arith) l.loop-k.invariant.1

@@ -1,0 +1,17 @@
+-- `blocks::any_zero` meets its contract. Assumes nothing.
+use mathlib.Core.Path.{◌≡◌, refl}
+use mathlib.Core.Bool.{not}
+use Prim.Native.Nat.{◌-◌, ◌≤◌}
+use native.Mathlib.Omega.{arith}
+use lib.Dec.{eqb}
+use lib.ListN.{take}
+use borrow.Author.Rules.{rules}
+use Rattle.blocks.specs.Blocks.{each, flag}
+use Rattle.blocks.proofs.Blocks.{flag-turn, flag-end}
+use Rattle.blocks.proofs.any_zero.Given as goal
+
+abbrev pub invariant-loop-k : goal.invariant-loop-k
+invariant-loop-k l = (l.k ≤ 16) × (l.found ≡ flag (each (λ b. not (eqb b 0)) (take l.k l.block)))
+
+abbrev pub decreases-loop-k : goal.decreases-loop-k
+decreases-loop-k l = 16 - l.k

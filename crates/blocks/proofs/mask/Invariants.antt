@@ -1,0 +1,15 @@
+-- `blocks::mask` meets its contract. Assumes nothing.
+use mathlib.Core.Path.{◌≡◌, refl, ap, ◌∙◌}
+use mathlib.Core.Logic.{⊎_elim}
+use Prim.Native.Nat.{ℕ, ◌-◌, ◌≤◌}
+use native.Mathlib.Omega.{arith}
+use lib.ListN.{length, length-set}
+use Rattle.blocks.specs.Blocks.{masked_front}
+use Rattle.blocks.proofs.Front.{masked-none, masked-turn, masked-end}
+use Rattle.blocks.proofs.mask.Given as goal
+
+abbrev pub invariant-loop-i : goal.invariant-loop-i
+invariant-loop-i l = (l.i ≤ l.end) × (l.end ≤ length l.initial.buf) × (length l.buf ≡ length l.initial.buf) × (l.buf ≡ masked_front l.sentinel l.i l.initial.buf)
+
+abbrev pub decreases-loop-i : goal.decreases-loop-i
+decreases-loop-i l = l.end - l.i

@@ -1,0 +1,26 @@
+-- `blocks::write16` meets its contract. Assumes nothing.
+use mathlib.Core.Path.{◌≡◌, refl, ap, ◌∙◌}
+use Prim.Native.Nat.{ℕ, ◌-◌, ◌≤◌}
+use native.Mathlib.Omega.{arith}
+use lib.ListN.{length, length-set}
+use lib.Seq.{paste, paste-zero}
+use Rattle.blocks.proofs.Blocks.{write-turn}
+use Rattle.blocks.proofs.write16.Goals as goal
+
+pub loop-k-init : goal.loop-k-init
+loop-k-init c = (omega arith, refl, paste-zero c.args.dest.now c.args.at c.args.t3)
+
+pub loop-k-preserved : goal.loop-k-preserved
+loop-k-preserved c =
+    let l = c in
+    let a = l.args in
+    (omega arith, simp length-set l.loop-k.invariant.1, write-turn a.dest.now l.loop-k.dest a.at a.t3 l.loop-k.k (omega arith) (omega arith) l.loop-k.invariant.2)
+
+pub shape_of-dest : goal.shape_of-dest
+shape_of-dest c = c.loop-k.invariant.1
+
+pub returns : goal.returns
+returns c =
+    let a = c.args in
+    let e : c.loop-k.k ≡ 16 = omega arith in
+    c.loop-k.invariant.2 ∙ ap (λ (n : ℕ). paste a.dest.now a.at a.t3 n) e

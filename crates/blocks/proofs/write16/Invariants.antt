@@ -1,0 +1,14 @@
+-- `blocks::write16` meets its contract. Assumes nothing.
+use mathlib.Core.Path.{◌≡◌, refl, ap, ◌∙◌}
+use Prim.Native.Nat.{ℕ, ◌-◌, ◌≤◌}
+use native.Mathlib.Omega.{arith}
+use lib.ListN.{length, length-set}
+use lib.Seq.{paste, paste-zero}
+use Rattle.blocks.proofs.Blocks.{write-turn}
+use Rattle.blocks.proofs.write16.Given as goal
+
+abbrev pub invariant-loop-k : goal.invariant-loop-k
+invariant-loop-k l = (l.k ≤ 16) × (length l.dest ≡ length l.initial.dest) × (l.dest ≡ paste l.initial.dest l.at l.block l.k)
+
+abbrev pub decreases-loop-k : goal.decreases-loop-k
+decreases-loop-k l = 16 - l.k

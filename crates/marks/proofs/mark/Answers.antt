@@ -1,0 +1,8 @@
+-- `marks::mark` meets its contract. Assumes nothing.
+use borrow.Author.Rules.{rules}
+use Rattle.marks.specs.Marks.{set_mark}
+use Rattle.marks.proofs.mark.Goals as goal
+
+pub returns : goal.returns
+unfolding set_mark
+returns c = cc
