@@ -15,10 +15,8 @@ loop-k-init c = (omega arith, refl)
 
 pub loop-k-preserved : goal.loop-k-preserved
 loop-k-preserved c =
-    let l = c in
-    (omega arith, flag-turn (λ b. not (eqb b 0)) l.args.t1 l.loop-k.k l.loop-k.found c.zero_flag-found.result (omega arith) l.loop-k.invariant.1 c.zero_flag-found.ensures)
+    (omega arith, flag-turn (λ b. not (eqb b 0)) c.args.block c.loop-k.k c.loop-k.found c.zero_flag-found.result (omega arith) c.loop-k.invariant.1 c.zero_flag-found.ensures)
 
 pub returns : goal.returns
 returns c =
-    let l = c in
-    flag-end (λ b. not (eqb b 0)) l.args.t1 l.loop-k.k l.loop-k.found (omega arith) l.loop-k.invariant.1
+    flag-end (λ b. not (eqb b 0)) c.args.block c.loop-k.k c.loop-k.found (omega arith) c.loop-k.invariant.1

@@ -5,21 +5,20 @@ use lib.ListN.{length}
 use borrow.Author.Rules.{rules}
 use Rattle.blocks.specs.Blocks.{is_clear}
 use Rattle.blocks.proofs.Blocks.{stands-yes, stands-no, sixteen-none, sixteen-some}
+use mathlib.Core.Path.{ap}
 use Rattle.blocks.proofs.clear16.Goals as goal
 
 pub returns-then-not-stand : goal.returns-then-not-stand
 unfolding is_clear
 returns-then-not-stand c =
     let a = c.args in
-    sixteen-none (λ b. not (eqb b 0)) a.s.now a.at (stands-no (length a.s.now) a.at c.stand.ensures c.if-not-stand.true)
+    sixteen-none (λ b. not (eqb b 0)) a.s.now a.at (stands-no (length a.s.now) a.at c.stand.ensures (ap not c.if-not-stand.true))
 
 pub read16-requires : goal.read16-requires
-read16-requires c = stands-yes _ _ c.stand.ensures c.if-not-stand.false
+read16-requires c = stands-yes _ _ c.stand.ensures (ap not c.if-not-stand.false)
 
 pub returns : goal.returns
 unfolding is_clear
 returns c =
-    let r = c in
-    let e = r in
-    let a = e.args in
-    sixteen-some (λ b. not (eqb b 0)) a.s.now a.at (stands-yes _ _ e.stand.ensures e.if-not-stand.false) r.read16.result r.read16.ensures c.any_zero.result c.any_zero.ensures
+    let a = c.args in
+    sixteen-some (λ b. not (eqb b 0)) a.s.now a.at (stands-yes _ _ c.stand.ensures (ap not c.if-not-stand.false)) c.read16.result c.read16.ensures c.any_zero.result c.any_zero.ensures

@@ -12,9 +12,8 @@ loop-k-init c = (omega arith, refl, refl)
 
 pub loop-k-preserved : goal.loop-k-preserved
 loop-k-preserved c =
-    let l = c in
-    let a = l.args in
-    (omega arith, simp length-set l.loop-k.invariant.1, read-turn a.s.now l.loop-k.block a.at l.loop-k.k (omega arith) (omega arith) l.loop-k.invariant.2)
+    let a = c.args in
+    (omega arith, simp length-set c.loop-k.invariant.1, read-turn a.s.now c.loop-k.block a.at c.loop-k.k (omega arith) (omega arith) c.loop-k.invariant.2)
 
 pub returns : goal.returns
 returns c =

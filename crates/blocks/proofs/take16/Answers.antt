@@ -1,68 +1,70 @@
 -- `blocks::take16` meets its contract. Assumes nothing.
 use mathlib.Core.Path.{◌≡◌, sym, ◌∙◌}
-use Prim.Native.Nat.{◌+◌, ◌≤◌}
-use lib.ListN.{length, drop}
+use Prim.Native.Nat.{ℕ, ◌+◌, ◌≤◌}
+use mathlib.Core.List.{List}
+use lib.ListN.{length, drop, take}
+use lib.Seq.{paste}
 use borrow.Author.Rules.{rules}
 use Rattle.blocks.specs.Blocks.{copied}
 use Rattle.blocks.proofs.Blocks.{stands-yes, stands-no, copied-fits, copied-dest, copied-src, paste-block, taken-dest, taken-src, taken-zeros, taken-clear, taken-mixed}
+use mathlib.Core.Path.{ap}
+use mathlib.Core.Bool.{not}
 use Rattle.blocks.proofs.take16.Goals as goal
 
 pub returns-then-not-stand : goal.returns-then-not-stand
 returns-then-not-stand c =
     let a = c.args in
-    let e = stands-no (length a.dest.now) a.at c.stand.ensures c.if-not-stand.true in
-    (taken-dest a.dest.now a.at a.src.now a.from e, copied-dest a.dest.now a.at a.src.now a.from e)
-
--- sixteen bytes stand in the destination
-dest-room : (c : goal.After-stand-2) → c.args.at + 16 ≤ length c.args.dest.now
-dest-room c = stands-yes _ _ c.stand.ensures c.if-not-stand.false
+    let e = stands-no (length a.dest.now) a.at c.stand.ensures (ap not c.if-not-stand.true) in
+    record { answer = taken-dest a.dest.now a.at a.src.now a.from e; memory = copied-dest a.dest.now a.at a.src.now a.from e }
 
 pub returns-then-not-stand-2 : goal.returns-then-not-stand-2
 returns-then-not-stand-2 c =
     let a = c.args in
-    let e = stands-no (length a.src.now) a.from c.stand-2.ensures c.if-not-stand-2.true in
-    (taken-src a.dest.now a.at a.src.now a.from (dest-room c) e, copied-src a.dest.now a.at a.src.now a.from e)
+    let dest_room : a.at + 16 ≤ length a.dest.now = stands-yes _ _ c.stand.ensures (ap not c.if-not-stand.false) in
+    let e = stands-no (length a.src.now) a.from c.stand-2.ensures (ap not c.if-not-stand-2.true) in
+    record { answer = taken-src a.dest.now a.at a.src.now a.from dest_room e; memory = copied-src a.dest.now a.at a.src.now a.from e }
 
 -- and in the source
-src-room : (c : goal.Else-not-stand-2) → c.args.from + 16 ≤ length c.args.src.now
-src-room c = stands-yes _ _ c.stand-2.ensures c.if-not-stand-2.false
-
 pub read16-block-requires : goal.read16-block-requires
-read16-block-requires c = src-room c
+read16-block-requires c = stands-yes _ _ c.stand-2.ensures (ap not c.if-not-stand-2.false)
 
+-- sixteen bytes stand in the destination
 pub write16-requires : goal.write16-requires
-write16-requires c = dest-room c
+write16-requires c = stands-yes _ _ c.stand.ensures (ap not c.if-not-stand.false)
 
 -- they are copied
-module _ (w : goal.After-write16) where
-  memory : w.write16.new.0 ≡ copied w.args.dest.now w.args.at w.args.src.now w.args.from
-  memory =
-      let r = w in
-      let a = r.args in
-      w.write16.ensures
-      ∙ paste-block a.dest.now a.at r.read16-block.result (drop a.from a.src.now) r.read16-block.ensures
-      ∙ sym (copied-fits a.dest.now a.at a.src.now a.from (dest-room r) (src-room r))
+memory :
+  (d : List ℕ) (at : ℕ) (s : List ℕ) (from : ℕ) → at + 16 ≤ length d → from + 16 ≤ length s → (written block : List ℕ)
+    → block ≡ take 16 (drop from s) → written ≡ paste d at block 16 → written ≡ copied d at s from
+memory d at s from dest_room src_room written block is was =
+    was ∙ paste-block d at block (drop from s) is ∙ sym (copied-fits d at s from dest_room src_room)
 
 pub returns-then-other-eq0 : goal.returns-then-other-eq0
 returns-then-other-eq0 c =
-    let o = c in
-    let w = o in
-    let r = w in
-    let a = r.args in
-    (taken-zeros a.dest.now a.at a.src.now a.from (dest-room r) (src-room r) r.read16-block.result r.read16-block.ensures o.any_unlike-other.result o.any_unlike-other.ensures c.if-other-eq0.true, memory w)
+    let a = c.args in
+    let dest_room : a.at + 16 ≤ length a.dest.now = stands-yes _ _ c.stand.ensures (ap not c.if-not-stand.false) in
+    let src_room : a.from + 16 ≤ length a.src.now = stands-yes _ _ c.stand-2.ensures (ap not c.if-not-stand-2.false) in
+    record {
+      answer = taken-zeros a.dest.now a.at a.src.now a.from dest_room src_room c.read16-block.result c.read16-block.ensures c.any_unlike-other.result c.any_unlike-other.ensures c.if-other-eq0.true;
+      memory = memory a.dest.now a.at a.src.now a.from dest_room src_room _ c.read16-block.result c.read16-block.ensures c.write16.ensures
+    }
 
 pub returns-then-zero-eq0 : goal.returns-then-zero-eq0
 returns-then-zero-eq0 c =
-    let o = c in
-    let w = o in
-    let r = w in
-    let a = r.args in
-    (taken-clear a.dest.now a.at a.src.now a.from (dest-room r) (src-room r) r.read16-block.result r.read16-block.ensures o.any_unlike-other.result o.any_zero-zero.result o.any_unlike-other.ensures o.any_zero-zero.ensures c.if-other-eq0.false c.if-zero-eq0.true, memory w)
+    let a = c.args in
+    let dest_room : a.at + 16 ≤ length a.dest.now = stands-yes _ _ c.stand.ensures (ap not c.if-not-stand.false) in
+    let src_room : a.from + 16 ≤ length a.src.now = stands-yes _ _ c.stand-2.ensures (ap not c.if-not-stand-2.false) in
+    record {
+      answer = taken-clear a.dest.now a.at a.src.now a.from dest_room src_room c.read16-block.result c.read16-block.ensures c.any_unlike-other.result c.any_zero-zero.result c.any_unlike-other.ensures c.any_zero-zero.ensures c.if-other-eq0.false c.if-zero-eq0.true;
+      memory = memory a.dest.now a.at a.src.now a.from dest_room src_room _ c.read16-block.result c.read16-block.ensures c.write16.ensures
+    }
 
 pub returns-else-zero-eq0 : goal.returns-else-zero-eq0
 returns-else-zero-eq0 c =
-    let o = c in
-    let w = o in
-    let r = w in
-    let a = r.args in
-    (taken-mixed a.dest.now a.at a.src.now a.from (dest-room r) (src-room r) r.read16-block.result r.read16-block.ensures o.any_unlike-other.result o.any_zero-zero.result o.any_unlike-other.ensures o.any_zero-zero.ensures c.if-other-eq0.false c.if-zero-eq0.false, memory w)
+    let a = c.args in
+    let dest_room : a.at + 16 ≤ length a.dest.now = stands-yes _ _ c.stand.ensures (ap not c.if-not-stand.false) in
+    let src_room : a.from + 16 ≤ length a.src.now = stands-yes _ _ c.stand-2.ensures (ap not c.if-not-stand-2.false) in
+    record {
+      answer = taken-mixed a.dest.now a.at a.src.now a.from dest_room src_room c.read16-block.result c.read16-block.ensures c.any_unlike-other.result c.any_zero-zero.result c.any_unlike-other.ensures c.any_zero-zero.ensures c.if-other-eq0.false c.if-zero-eq0.false;
+      memory = memory a.dest.now a.at a.src.now a.from dest_room src_room _ c.read16-block.result c.read16-block.ensures c.write16.ensures
+    }
