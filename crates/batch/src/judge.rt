@@ -8,14 +8,14 @@ use record::frame::SIZE;
 use record::{Class, ReadAnswer, Record};
 
 /// What a record that is not refused does.
-#[derive(Drop)]
+#[derive(Clone, Copy)]
 pub enum Effect {
     Repeat,
     Store { index: u16, weight: u32 },
     Close { count: u16, total: u32 },
 }
 
-#[derive(Drop)]
+#[derive(Clone, Copy)]
 pub enum Verdict {
     Take(Effect),
     Refuse(Answer),

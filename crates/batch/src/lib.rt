@@ -14,7 +14,7 @@ use judge::{Effect, Verdict};
 use record::frame::SIZE;
 
 /// One batch of one board. A mark says that the particle of that index is in its slot.
-#[derive(Drop)]
+#[derive(Clone, Copy)]
 pub struct Receiver {
     pub marks: [u64; 64],
     pub total: u32,
@@ -24,14 +24,14 @@ pub struct Receiver {
 }
 
 /// The batch's close, once it is taken: the sender's count and total.
-#[derive(Drop)]
+#[derive(Clone, Copy)]
 pub enum Close {
     Not,
     Taken { count: usize, total: u32 },
 }
 
 /// What a frame is answered: a refusal, with the record's number from 0, or how the batch stands after it.
-#[derive(Drop)]
+#[derive(Clone, Copy)]
 pub enum Answer {
     BadState,
     BadLength,
@@ -47,14 +47,14 @@ pub enum Answer {
     Differs,
 }
 
-#[derive(Drop)]
+#[derive(Clone, Copy)]
 pub struct Accepted {
     pub next: Receiver,
     pub answer: Answer,
 }
 
 /// How a batch stands: no close yet, so many missing, all there, or all there with another total than the close's.
-#[derive(Drop)]
+#[derive(Clone, Copy)]
 pub enum Standing {
     BadState,
     Open,
@@ -64,7 +64,7 @@ pub enum Standing {
 }
 
 // What a frame's records came to: the first verdict that refuses, or the state after all of them.
-#[derive(Drop)]
+#[derive(Clone, Copy)]
 struct Taken {
     verdict: Verdict,
     next: Receiver,

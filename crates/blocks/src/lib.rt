@@ -6,7 +6,7 @@ ghost use Rattle.std.proofs.Math.Seq.{paste};
 ghost use Rattle.blocks.specs.Blocks.{stands, each, flag, is_clear, is_all, copied, taken_of, filled, masked_front};
 
 /// What sixteen bytes are: not there, none of them zero, all of them zero, or some of each.
-#[derive(Drop)]
+#[derive(Clone, Copy)]
 pub enum Taken {
     Nothing,
     Clear,

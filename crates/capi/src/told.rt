@@ -73,7 +73,7 @@ pub(crate) fn encoded_with(found: EncodedWith, size: &mut usize) -> u8
 }
 
 /// An answer's number and its two values.
-#[derive(Drop)]
+#[derive(Clone, Copy)]
 pub(crate) struct Telling {
     number: u8,
     first: usize,

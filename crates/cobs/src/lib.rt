@@ -5,7 +5,7 @@ ghost use Rattle.std.specs.Prelude.{◌≡◌};
 ghost use Rattle.cobs.specs.Lengths.{told, overhead_told, length_told};
 
 /// A length asked about, or the refusal of one over `LONGEST`.
-#[derive(Drop)]
+#[derive(Clone, Copy)]
 pub enum Length {
     Bytes(usize),
     TooLong,

@@ -7,7 +7,7 @@ ghost use Rattle.dec.specs.Helpers.{stopped};
 use crate::stream::{CobsDecoder, PushAnswer};
 
 /// A frame, with its size and how much of the source was parsed; or a refusal.
-#[derive(Drop)]
+#[derive(Clone, Copy)]
 pub enum Decoded {
     Frame { size: usize, parsed: usize },
     EmptyFrame,

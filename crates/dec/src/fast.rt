@@ -7,14 +7,14 @@ ghost use Rattle.dec.specs.Helpers.{inside, Ahead, Bytes, Clear, Patched, Passed
 use blocks::{all16, clear16, copy16, fill16};
 
 /// A group that is open: its code, and how many of its bytes are to come.
-#[derive(Drop)]
+#[derive(Clone, Copy)]
 pub(crate) struct Open {
     pub code: usize,
     pub left: usize,
 }
 
 /// How far into the piece and the destination, and the group that is open there.
-#[derive(Drop)]
+#[derive(Clone, Copy)]
 pub(crate) struct Reached {
     pub i: usize,
     pub place: usize,

@@ -3,7 +3,7 @@ ghost use Rattle.std.specs.Prelude.{◌≡◌, ◌<◌};
 ghost use Rattle.dec.specs.State.{gives, opened, at_zero, stepped, told_given, given_told, Feeds};
 
 /// No byte of a body yet; so many bytes of a group to come; the same in a group whose code is FF.
-#[derive(Drop)]
+#[derive(Clone, Copy)]
 pub enum DecoderState {
     Idle,
     Grab(u8),
@@ -11,7 +11,7 @@ pub enum DecoderState {
 }
 
 /// What one byte gives. `InvalidFrame` is the refusal of an early zero, with 0 decoded bytes.
-#[derive(Drop)]
+#[derive(Clone, Copy)]
 pub enum DecodeResult {
     NoData,
     DataStart,
@@ -21,7 +21,7 @@ pub enum DecodeResult {
 }
 
 /// The state after a byte, and what the byte gave.
-#[derive(Drop)]
+#[derive(Clone, Copy)]
 pub struct Stepped {
     pub state: DecoderState,
     pub result: DecodeResult,

@@ -8,7 +8,7 @@ use crate::fast::{Open, Reached, by_sixteen, bytes};
 use crate::state::{DecodeResult, DecoderState};
 
 /// The write place in the destination, whether the rest of an overfull frame is being skipped, and the state.
-#[derive(Drop)]
+#[derive(Clone, Copy)]
 pub struct CobsDecoder {
     pub place: usize,
     pub skip: bool,
@@ -16,7 +16,7 @@ pub struct CobsDecoder {
 }
 
 /// What a piece gives. `parsed` and `consumed` count its bytes up to and with the one that stopped it.
-#[derive(Drop)]
+#[derive(Clone, Copy)]
 pub enum PushAnswer {
     More,
     Frame { size: usize, parsed: usize },
@@ -26,7 +26,7 @@ pub enum PushAnswer {
 }
 
 /// The decoder after a byte or a piece, and the answer.
-#[derive(Drop)]
+#[derive(Clone, Copy)]
 pub struct Pushed {
     pub next: CobsDecoder,
     pub answer: PushAnswer,
@@ -67,7 +67,7 @@ fn ended(answer: PushAnswer) -> Pushed
 }
 
 /// The decoder further on in a piece.
-#[derive(Drop)]
+#[derive(Clone, Copy)]
 struct Went {
     next: CobsDecoder,
     i: usize,

@@ -12,7 +12,7 @@ use blocks::clear16;
 use cobs::Length;
 
 /// The encoding's length, or why nothing was written.
-#[derive(Drop)]
+#[derive(Clone, Copy)]
 pub enum Encoded {
     Length(usize),
     TooLong,
@@ -20,7 +20,7 @@ pub enum Encoded {
 }
 
 /// The same, for the call with a sentinel of the caller's.
-#[derive(Drop)]
+#[derive(Clone, Copy)]
 pub enum EncodedWith {
     Length(usize),
     TooLong,
@@ -28,7 +28,7 @@ pub enum EncodedWith {
 }
 
 // Whether an encoding fits.
-#[derive(Drop)]
+#[derive(Clone, Copy)]
 enum Room {
     Fits,
     DestBufTooSmall,

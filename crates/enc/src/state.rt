@@ -4,14 +4,14 @@ ghost use Rattle.enc.specs.State.{fresh_state, step, state_bad, state_push, told
 
 /// The output starts with one byte held open for a code. `place` is where the open group's code is to stand, `code` what
 /// it is if the group closes now.
-#[derive(Drop)]
+#[derive(Clone, Copy)]
 pub struct EncoderState {
     pub place: usize,
     pub code: u8,
 }
 
 /// What a byte asks of the output.
-#[derive(Drop)]
+#[derive(Clone, Copy)]
 pub enum PushResult {
     /// Put this byte at the end.
     AddSingle(u8),
@@ -23,14 +23,14 @@ pub enum PushResult {
 }
 
 /// What a byte asks, and the state after it.
-#[derive(Drop)]
+#[derive(Clone, Copy)]
 pub struct StatePushed {
     pub result: PushResult,
     pub next: EncoderState,
 }
 
 /// What the end of the message asks: write the code at its place.
-#[derive(Drop)]
+#[derive(Clone, Copy)]
 pub enum StateFinished {
     Modify { place: usize, code: u8 },
     BadState,

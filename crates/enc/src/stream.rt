@@ -7,7 +7,7 @@ ghost use Rattle.enc.specs.Stream.{fresh, closes_full, obeyed, moved, wrote, mov
 use crate::state::{EncoderState, PushResult, StateFinished};
 
 /// `full`: a just-closed full group ends the input. `count`: the bytes accepted.
-#[derive(Drop)]
+#[derive(Clone, Copy)]
 pub struct Encoder {
     pub state: EncoderState,
     pub full: bool,
@@ -15,14 +15,14 @@ pub struct Encoder {
 }
 
 /// A fresh encoder, or no room for one.
-#[derive(Drop)]
+#[derive(Clone, Copy)]
 pub enum Started {
     Ready(Encoder),
     DestBufTooSmall,
 }
 
 /// What becomes of a piece.
-#[derive(Drop)]
+#[derive(Clone, Copy)]
 pub enum Accepted {
     Accepted,
     BadState,
@@ -31,14 +31,14 @@ pub enum Accepted {
 }
 
 /// The answer, and the encoder to go on with.
-#[derive(Drop)]
+#[derive(Clone, Copy)]
 pub struct Pushed {
     pub answer: Accepted,
     pub next: Encoder,
 }
 
 /// The encoding's length.
-#[derive(Drop)]
+#[derive(Clone, Copy)]
 pub enum Finished {
     Length(usize),
     BadState,

@@ -14,7 +14,7 @@ pub struct CobsEncoder<'a> {
 }
 
 /// Whether an encoder could start.
-#[derive(Drop)]
+#[derive(Clone, Copy)]
 pub enum Opened {
     Ready,
     DestBufTooSmall,
@@ -28,7 +28,7 @@ pub struct NewEncoder<'a> {
 }
 
 /// What the four calls of `encode_two` answered.
-#[derive(Drop)]
+#[derive(Clone, Copy)]
 pub struct TwoPieces {
     pub opened: Opened,
     pub first: Accepted,
@@ -36,7 +36,7 @@ pub struct TwoPieces {
     pub finished: Finished,
 }
 
-#[derive(Drop)]
+#[derive(Clone, Copy)]
 struct Opening {
     encoder: Encoder,
     answer: Opened,

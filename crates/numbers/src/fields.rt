@@ -9,13 +9,13 @@ use dec::state::DecoderState;
 use dec::stream::CobsDecoder;
 use wire::Wire;
 
-#[derive(Drop)]
+#[derive(Clone, Copy)]
 struct StateNumbers {
     kind: u64,
     left: u64,
 }
 
-#[derive(Drop)]
+#[derive(Clone, Copy)]
 struct CloseNumbers {
     taken: u64,
     count: u64,

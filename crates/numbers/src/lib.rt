@@ -13,7 +13,7 @@ use wire::Wire;
 pub const COUNT: usize = 74;
 
 /// The states that the numbers name, or a fresh pair where they name none.
-#[derive(Drop)]
+#[derive(Clone, Copy)]
 pub struct Found {
     pub named: bool,
     pub wire: Wire,

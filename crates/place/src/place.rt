@@ -7,7 +7,7 @@ ghost use Rattle.place.specs.Calls.{report_told, place_told};
 ghost use Rattle.place.specs.Helpers.{group_of};
 
 /// A frame, with its size and how much of the buffer was parsed, its zero left out; or a refusal.
-#[derive(Drop)]
+#[derive(Clone, Copy)]
 pub enum Report {
     Frame { size: usize, parsed: usize },
     EmptyFrame,
@@ -15,7 +15,7 @@ pub enum Report {
 }
 
 /// A frame's size alone, or a refusal.
-#[derive(Drop)]
+#[derive(Clone, Copy)]
 pub enum InPlace {
     Size(usize),
     EmptyFrame,
@@ -23,7 +23,7 @@ pub enum InPlace {
 }
 
 /// A group: how many bytes follow its code, or that too few are left.
-#[derive(Drop)]
+#[derive(Clone, Copy)]
 pub(crate) enum Group {
     Whole(usize),
     Short,

@@ -9,7 +9,7 @@ use crate::place::{Group, InPlace, body_end, decode_in_place, group_of};
 use dec::stream::{CobsDecoder, PushAnswer};
 
 /// A frame's size, or a refusal.
-#[derive(Drop)]
+#[derive(Clone, Copy)]
 pub enum DecodedWith {
     Size(usize),
     EmptyFrame,

@@ -11,13 +11,13 @@ pub const SIZE: usize = 16;
 /// The most bytes of a frame's message.
 pub const MOST: usize = 240;
 
-#[derive(Drop)]
+#[derive(Clone, Copy)]
 enum Checked {
     AllGood,
     BadRecord(usize),
 }
 
-#[derive(Drop)]
+#[derive(Clone, Copy)]
 pub enum FrameWritten {
     Length(usize),
     BadLength,

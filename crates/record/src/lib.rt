@@ -7,7 +7,7 @@ ghost use Rattle.std.specs.Prelude.{◌≡◌, ◌+◌, ◌≤◌, length, drop,
 ghost use Rattle.record.specs.Record.{fields_of, bytes_of, is_valid, fields_for, record_in, told_write, write_told, written_bytes, told_read, read_told, read_of, told_class, class_of};
 
 /// What a board sends: a particle, or the close of a batch with the count and the total of its particles.
-#[derive(Drop)]
+#[derive(Clone, Copy)]
 pub enum Record {
     Particle {
         batch: u16,
@@ -25,7 +25,7 @@ pub enum Record {
 }
 
 /// The fields of 16 bytes, unchecked; x, y and z as the 16 bits that stand there.
-#[derive(Drop)]
+#[derive(Clone, Copy)]
 pub struct Fields {
     pub batch: u16,
     pub index: u16,
@@ -37,26 +37,26 @@ pub struct Fields {
     pub weight: u32,
 }
 
-#[derive(Drop)]
+#[derive(Clone, Copy)]
 pub enum WriteAnswer {
     Done,
     BadRecord,
 }
 
-#[derive(Drop)]
+#[derive(Clone, Copy)]
 pub struct Written {
     pub answer: WriteAnswer,
     pub bytes: [u8; 16],
 }
 
-#[derive(Drop)]
+#[derive(Clone, Copy)]
 pub enum ReadAnswer {
     Good(Record),
     BadRecord,
 }
 
 /// How a record's batch stands to ours.
-#[derive(Drop)]
+#[derive(Clone, Copy)]
 pub enum Class {
     Ours,
     Ahead,

@@ -10,14 +10,14 @@ use batch::{Answer, Receiver, Standing};
 use dec::stream::{CobsDecoder, PushAnswer};
 
 /// Both states of a receiving side: the decoder's, and the receiver's.
-#[derive(Drop)]
+#[derive(Clone, Copy)]
 pub struct Wire {
     pub decoder: CobsDecoder,
     pub receiver: Receiver,
 }
 
 /// What the decoder said of a piece that brought no frame, or the receiver of the frame it brought.
-#[derive(Drop)]
+#[derive(Clone, Copy)]
 pub enum Received {
     More,
     InvalidFrame { decoded: usize },
@@ -37,7 +37,7 @@ pub enum Received {
 }
 
 /// The states after a call, its answer, and how many bytes of the piece it took.
-#[derive(Drop)]
+#[derive(Clone, Copy)]
 pub struct Receipt {
     pub next: Wire,
     pub answer: Received,
