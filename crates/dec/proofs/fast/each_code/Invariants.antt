@@ -1,0 +1,13 @@
+-- `dec::fast::each_code` meets its contract: from code to code. Assumes nothing.
+use mathlib.Core.Path.{◌≡◌, sym, ◌∙◌}
+use Prim.Native.Nat.{◌-◌, ◌≤◌}
+use native.Mathlib.Omega.{arith}
+use borrow.Author.Rules.{rules}
+use Rattle.dec.proofs.Sixteen.{Patching, patch-first, patch-code, patch-last}
+use Rattle.dec.proofs.fast.each_code.Given as goal
+
+abbrev pub invariant-loop-q : goal.invariant-loop-q
+invariant-loop-q l = Patching l.piece l.i l.initial.dest l.place l.code l.left l.dest l.c l.q
+
+abbrev pub decreases-loop-q : goal.decreases-loop-q
+decreases-loop-q l = 16 - l.q

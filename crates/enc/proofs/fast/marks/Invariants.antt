@@ -1,0 +1,14 @@
+-- `enc::fast::marks` meets its contract. Assumes nothing.
+use mathlib.Core.Path.{refl}
+use Prim.Native.Nat.{◌+◌, ◌-◌, ◌≤◌}
+use native.Mathlib.Omega.{arith}
+use Rattle.enc.specs.Fast.{Short, Open, Kept}
+use Rattle.enc.proofs.Opens.{inside, kept_refl, kept_on, same-open}
+use Rattle.enc.proofs.Turns.{mark-turn}
+use Rattle.enc.proofs.fast.marks.Given as goal
+
+abbrev pub invariant-loop-k : goal.invariant-loop-k
+invariant-loop-k l = (l.k ≤ 16) × Short l.place (l.out + 16) × Open l.src (l.i + l.k) l.place (l.out + l.k) (16 - l.k) l.dest × Kept l.src l.initial.dest l.dest
+
+abbrev pub decreases-loop-k : goal.decreases-loop-k
+decreases-loop-k l = 16 - l.k

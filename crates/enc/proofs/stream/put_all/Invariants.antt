@@ -1,0 +1,13 @@
+-- `enc::stream::put_all` meets its contract. Assumes nothing.
+use Prim.Native.Nat.{◌-◌}
+use native.Mathlib.Omega.{arith}
+use lib.ListN.{length}
+use Rattle.enc.proofs.Steps.{in_group, sound}
+use Rattle.enc.proofs.Loops.{Writing, going-sound, writing_start, writing-on, writing-end}
+use Rattle.enc.proofs.stream.put_all.Given as goal
+
+abbrev pub invariant-loop-i : goal.invariant-loop-i
+invariant-loop-i l = Writing l.piece l.initial.at l.initial.dest l.i l.at l.dest
+
+abbrev pub decreases-loop-i : goal.decreases-loop-i
+decreases-loop-i l = length l.piece - l.i
