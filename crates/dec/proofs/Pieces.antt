@@ -10,7 +10,7 @@ use lib.ListN.{length, length-set}
 use Rattle.cobs.specs.Words.{if◌then◌else◌}
 use Rattle.cobs.specs.Answers.{tell}
 use Rattle.dec.specs.State.{stepped}
-use Rattle.dec.specs.Stream.{at, bad, result_outcome, Outcome, goes, stops, is_more, result_dest, byte_outcome, byte_dest, further, joined, piece_outcome, piece_dest, push_outcome, push_dest}
+use Rattle.dec.specs.Stream.{bad, result_outcome, Outcome, goes, stops, is_more, result_dest, byte_outcome, byte_dest, further, joined, piece_outcome, piece_dest, push_outcome, push_dest}
 use Rattle.dec.specs.declared.state.DecoderState.{DecoderState}
 use Rattle.dec.specs.declared.state.DecodeResult.{DecodeResult}
 use Rattle.dec.specs.declared.state.DecodeResult.TheVariants.{NoData, DataStart, DataComplete, DataContinue, InvalidFrame}
