@@ -1,5 +1,6 @@
 //! The encoder: `state` alone, `stream` on a lent buffer, and the calls of `oneshot`.
 #![tactic(auto)]
+
 mod fast;
 pub mod oneshot;
 pub mod state;

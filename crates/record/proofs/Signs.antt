@@ -1,5 +1,5 @@
 -- Two's complement of 16 bits, by way of 32: the casts fit, and give what the definitions say. Assumes nothing.
-use Rattle.std.proofs.Common.{◌≡◌, ℕ, suc, ◌+◌, ◌-◌, ◌^◌, ◌<◌, ◌≤◌, Bool, true, false, cond, T, ℤ, pos, negsuc, ◌+ℤ◌, ◌-ℤ◌, nat_abs, sym, refl, ap, ◌∙◌, subst, arith, to_z-of_z, w16, w32, Fits, SFits, to_z, of_z, ltb-true, le-ltb, lt-ltb, le-leb}
+use Rattle.std.proofs.Common.{◌≡◌, ℕ, suc, ◌-◌, ◌^◌, ◌<◌, ◌≤◌, Bool, true, false, cond, T, ℤ, pos, negsuc, ◌+ℤ◌, ◌-ℤ◌, nat_abs, sym, refl, ap, ◌∙◌, subst, arith, to_z-of_z, w16, w32, Fits, SFits, to_z, of_z, ltb-true, le-ltb, lt-ltb, le-leb}
 use lib.Signed.{lt_z, non_neg, mag}
 use mir.Facts.{to_z_pos}
 use borrow.Author.Tests.{lt-leb}

@@ -1,5 +1,6 @@
 //! Particle records: 16 bytes, little-endian. A record's fields are checked in one place, from the writer too.
 #![tactic(auto)]
+
 pub mod frame;
 mod number;
 

@@ -1,10 +1,9 @@
 -- `enc::fast::bytes` meets its contract. Assumes nothing.
-use mathlib.Core.Logic.{⊎_elim}
-use Prim.Native.Nat.{◌-◌}
 use native.Mathlib.Omega.{arith}
-use Rattle.enc.proofs.Opens.{inside, room}
-use Rattle.enc.proofs.Turns.{Passing, passing-start, passing-on, passing-end}
+use Rattle.enc.proofs.Opens.{inside}
+use Rattle.enc.proofs.Turns.{passing-start, passing-on, passing-end}
 use Rattle.enc.proofs.fast.bytes.Goals as goal
+use Rattle.enc.proofs.fast.bytes.Goals.{then-left-room, else-left-room}
 
 pub overflow_sub-room : goal.overflow_sub-room
 overflow_sub-room c = omega (arith, c.requires.code)
@@ -24,10 +23,10 @@ overflow_add-stop-else-left-room c = omega (arith, c.requires.within)
 pub loop-i-init : goal.loop-i-init
 loop-i-init c =
     let p = c.requires in
-    ⊎_elim
-    (λ w. passing-start _ _ _ _ _ _ (omega (arith, w)) (omega (arith, w, p.within)) (omega (arith, w, p.code, p.few)) (λ h. absurd (omega (arith, w, p.within))) p)
-    (λ w. passing-start _ _ _ _ _ _ (omega (arith, w)) (omega (arith, w, p.within)) (omega (arith, w, p.code, p.few)) (λ h. omega (arith, w, p.code, p.few)) p)
-    c.if-left-room.branch
+    elim c.if-left-room.branch [
+      | then-left-room w ↦ passing-start _ _ _ _ _ _ (omega arith) (omega (arith, p.within)) (omega (arith, p.code, p.few)) (λ h. absurd (omega (arith, p.within))) p
+      | else-left-room w ↦ passing-start _ _ _ _ _ _ (omega arith) (omega (arith, p.within)) (omega (arith, p.code, p.few)) (λ h. omega (arith, p.code, p.few)) p
+    ]
 
 pub bounds-src-i : goal.bounds-src-i
 bounds-src-i c = omega (arith, c.loop-i.invariant.within)
@@ -36,7 +35,7 @@ pub shape_of-dest-then-b-eq0 : goal.shape_of-dest-then-b-eq0
 shape_of-dest-then-b-eq0 c = c.loop-i.invariant.kept.long
 
 pub returns-then-b-eq0 : goal.returns-then-b-eq0
-returns-then-b-eq0 c = 
+returns-then-b-eq0 c =
     let both = passing-end _ _ _ _ _ _ _ _ _ c.loop-i.invariant (λ h. c.if-b-eq0.true) in
     record { next = both.0; kept = both.1 }
 
@@ -57,6 +56,6 @@ pub shape_of-dest : goal.shape_of-dest
 shape_of-dest c = c.loop-i.invariant.kept.long
 
 pub returns : goal.returns
-returns c = 
+returns c =
     let both = passing-end _ _ _ _ _ _ _ _ _ c.loop-i.invariant (λ h. absurd (omega arith)) in
     record { next = both.0; kept = both.1 }

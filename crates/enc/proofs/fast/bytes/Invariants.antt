@@ -1,9 +1,6 @@
 -- `enc::fast::bytes` meets its contract. Assumes nothing.
-use mathlib.Core.Logic.{⊎_elim}
 use Prim.Native.Nat.{◌-◌}
-use native.Mathlib.Omega.{arith}
-use Rattle.enc.proofs.Opens.{inside, room}
-use Rattle.enc.proofs.Turns.{Passing, passing-start, passing-on, passing-end}
+use Rattle.enc.proofs.Turns.{Passing}
 use Rattle.enc.proofs.fast.bytes.Given as goal
 
 abbrev pub invariant-loop-i : goal.invariant-loop-i

@@ -1,6 +1,5 @@
 -- `enc::fast::mark` meets its contract. Assumes nothing.
 use borrow.Author.Tests.{eq-eqb, ne_eqb}
-use borrow.Author.Rules.{rules}
 use Rattle.enc.proofs.fast.mark.Goals as goal
 
 pub returns-then-byte-eq0 : goal.returns-then-byte-eq0

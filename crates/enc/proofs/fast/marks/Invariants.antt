@@ -1,10 +1,6 @@
 -- `enc::fast::marks` meets its contract. Assumes nothing.
-use mathlib.Core.Path.{refl}
 use Prim.Native.Nat.{◌+◌, ◌-◌, ◌≤◌}
-use native.Mathlib.Omega.{arith}
 use Rattle.enc.specs.Fast.{Short, Open, Kept}
-use Rattle.enc.proofs.Opens.{inside, kept_refl, kept_on, same-open}
-use Rattle.enc.proofs.Turns.{mark-turn}
 use Rattle.enc.proofs.fast.marks.Given as goal
 
 abbrev pub invariant-loop-k : goal.invariant-loop-k

@@ -1,17 +1,11 @@
 -- `enc::fast::put` meets its contract. Assumes nothing.
-use mathlib.Core.Logic.{⊎_elim}
-use Prim.Native.Nat.{◌-◌, ◌<◌}
+use Prim.Native.Nat.{◌<◌}
 use native.Mathlib.Omega.{arith}
 use lib.ListN.{length, length-set}
-use Rattle.enc.specs.Fast.{Short, Open, Kept}
 use Rattle.enc.proofs.Opens.{kept_refl, kept_on, first-open, all-written, kept-code, close-end, inside}
 use Rattle.enc.proofs.Turns.{group-turn}
 use Rattle.enc.proofs.fast.put.Goals as goal
-use Rattle.enc.proofs.fast.put.Goals.{After-bytes-to}
-
--- what stays, once single bytes are passed
-kept_here : (c : After-bytes-to) → let a = c.args in Kept a.src.now a.dest.now c.bytes-to.new.from.1.0
-kept_here c = kept_on c.loop-i.invariant.1 c.bytes-to.ensures.kept
+use Rattle.enc.proofs.fast.put.Goals.{then-out-place-lt-FULL_LENGTH, else-out-place-lt-FULL_LENGTH}
 
 pub loop-i-init : goal.loop-i-init
 loop-i-init c = (first-open _ _ c.requires, kept_refl _ _, omega arith)
@@ -40,7 +34,7 @@ pub overflow_sub-out-in-loop-i : goal.overflow_sub-out-in-loop-i
 overflow_sub-out-in-loop-i c = c.bytes-to.ensures.next.1.after
 
 pub overflow_add-out-in-loop-i : goal.overflow_add-out-in-loop-i
-overflow_add-out-in-loop-i c = omega (arith, inside c.bytes-to.ensures.next.0, (kept_here c.before.before).long)
+overflow_add-out-in-loop-i c = omega (arith, inside c.bytes-to.ensures.next.0, (kept_on c.loop-i.invariant.1 c.bytes-to.ensures.kept).long)
 
 pub overflow_sub-dest : goal.overflow_sub-dest
 overflow_sub-dest c = omega (arith, inside c.bytes-to.ensures.next.0)
@@ -52,13 +46,13 @@ pub bounds-dest-place : goal.bounds-dest-place
 bounds-dest-place c = omega (arith, inside c.bytes-to.ensures.next.0)
 
 pub shape_of-dest-then-i-n : goal.shape_of-dest-then-i-n
-shape_of-dest-then-i-n c = simp length-set (kept_here c.before.before.before).long
+shape_of-dest-then-i-n c = simp length-set (kept_on c.loop-i.invariant.1 c.bytes-to.ensures.kept).long
 
 pub returns-then-i-n : goal.returns-then-i-n
 returns-then-i-n c =
     let o = c.bytes-to.ensures.next.0 in
     let e = close-end _ _ _ _ _ _ o c.if-i-n.true in
-    record { length = e.0; memory = all-written _ _ _ c.requires e.1 (kept_on (kept_here c.before.before.before) (kept-code _ _ _ _ _ _ o)) }
+    record { length = e.0; memory = all-written _ _ _ c.requires e.1 (kept_on (kept_on c.loop-i.invariant.1 c.bytes-to.ensures.kept) (kept-code _ _ _ _ _ _ o)) }
 
 pub overflow_sub-out-in-loop-i-2 : goal.overflow_sub-out-in-loop-i-2
 overflow_sub-out-in-loop-i-2 c = omega (arith, inside c.bytes-to.ensures.next.0)
@@ -69,12 +63,12 @@ overflow_add-i-then-out-place-lt-FULL_LENGTH c = omega (arith, c.bytes-to.ensure
 pub overflow_add-out-in-loop-i-2 : goal.overflow_add-out-in-loop-i-2
 overflow_add-out-in-loop-i-2 c =
     let o = c.bytes-to.ensures.next.0 in
-    omega (arith, inside o, o.within, (kept_here c.before.before.before.before).long)
+    omega (arith, inside o, o.within, (kept_on c.loop-i.invariant.1 c.bytes-to.ensures.kept).long)
 
 pub loop-i-smaller : goal.loop-i-smaller
 loop-i-smaller c =
     let e = c.bytes-to.ensures.next in
-    ⊎_elim (λ w. omega (arith, w, e.0.within, e.1.after)) (λ w. omega (arith, w, e.0.within, e.1.after)) c.if-out-place-lt-FULL_LENGTH.branch
+    omega (arith, e.0.within, e.1.after)
 
 pub loop-i-preserved : goal.loop-i-preserved
 loop-i-preserved c =
@@ -82,6 +76,6 @@ loop-i-preserved c =
     let l : c.bytes-to.result < length c.args.src.now =
     omega (arith, e.0.within, c.if-i-n.false) in
     let t = group-turn _ _ _ _ _ e.0 l (λ p. e.1.stops l p) c.if-out-place-lt-FULL_LENGTH.i
-    (λ p. ⊎_elim (λ w. w.1) (λ w. absurd (omega (arith, w))) c.if-out-place-lt-FULL_LENGTH.branch)
-    (λ p. ⊎_elim (λ w. absurd (omega (arith, w))) (λ w. w.1) c.if-out-place-lt-FULL_LENGTH.branch) in
-    (t, kept_on (kept_here c.before.before.before.before) (kept-code _ _ _ _ _ _ e.0), omega arith)
+    (λ p. elim c.if-out-place-lt-FULL_LENGTH.branch [ then-out-place-lt-FULL_LENGTH w ↦ w.i-is | else-out-place-lt-FULL_LENGTH w ↦ absurd (omega arith) ])
+    (λ p. elim c.if-out-place-lt-FULL_LENGTH.branch [ then-out-place-lt-FULL_LENGTH w ↦ absurd (omega arith) | else-out-place-lt-FULL_LENGTH w ↦ w.i-is ]) in
+    (t, kept_on (kept_on c.loop-i.invariant.1 c.bytes-to.ensures.kept) (kept-code _ _ _ _ _ _ e.0), omega arith)

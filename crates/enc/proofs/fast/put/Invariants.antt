@@ -1,11 +1,7 @@
 -- `enc::fast::put` meets its contract. Assumes nothing.
-use mathlib.Core.Logic.{⊎_elim}
-use Prim.Native.Nat.{◌-◌, ◌<◌}
-use native.Mathlib.Omega.{arith}
-use lib.ListN.{length, length-set}
+use Prim.Native.Nat.{◌-◌}
+use lib.ListN.{length}
 use Rattle.enc.specs.Fast.{Short, Open, Kept}
-use Rattle.enc.proofs.Opens.{kept_refl, kept_on, first-open, all-written, kept-code, close-end, inside}
-use Rattle.enc.proofs.Turns.{group-turn}
 use Rattle.enc.proofs.fast.put.Given as goal
 
 abbrev pub invariant-loop-i : goal.invariant-loop-i

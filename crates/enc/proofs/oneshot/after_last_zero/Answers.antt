@@ -1,9 +1,7 @@
 -- `enc::oneshot::after_last_zero` meets its contract. Assumes nothing.
 use mathlib.Core.Path.{sym, ◌∙◌}
-use Prim.Native.Nat.{◌-◌, ◌≤◌}
 use native.Mathlib.Omega.{arith}
-use borrow.Author.Rules.{rules}
-use Rattle.enc.proofs.Counted.{Clean, clean-byte, clean-sixteen}
+use Rattle.enc.proofs.Counted.{clean-byte, clean-sixteen}
 use Rattle.enc.proofs.oneshot.after_last_zero.Goals as goal
 
 pub loop-end-init : goal.loop-end-init

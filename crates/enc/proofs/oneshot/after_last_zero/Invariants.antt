@@ -1,9 +1,6 @@
 -- `enc::oneshot::after_last_zero` meets its contract. Assumes nothing.
-use mathlib.Core.Path.{sym, ◌∙◌}
-use Prim.Native.Nat.{◌-◌, ◌≤◌}
-use native.Mathlib.Omega.{arith}
-use borrow.Author.Rules.{rules}
-use Rattle.enc.proofs.Counted.{Clean, clean-byte, clean-sixteen}
+use Prim.Native.Nat.{◌≤◌}
+use Rattle.enc.proofs.Counted.{Clean}
 use Rattle.enc.proofs.oneshot.after_last_zero.Given as goal
 
 abbrev pub invariant-loop-end : goal.invariant-loop-end

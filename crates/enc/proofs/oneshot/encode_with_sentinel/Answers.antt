@@ -1,12 +1,11 @@
 -- `enc::oneshot::encode_with_sentinel` meets its contract. Assumes nothing.
 use mathlib.Core.Path.{◌∙◌}
-use borrow.Author.Rules.{rules}
 use Rattle.cobs.specs.OneShot.{chosen}
 use Rattle.enc.proofs.Forms.{most-told, fits-says, small-says, form-long, form_small, form-fits, length-chosen, chosen_is}
 use Rattle.enc.proofs.oneshot.encode_with_sentinel.Goals as goal
 
 pub returns-in_default : goal.returns-in_default
-returns-in_default c = 
+returns-in_default c =
     let both = form-long (chosen _) _ _ _ c.max_encoding_length.ensures c.in_default.is in
     record { answer = both.0; memory = both.1 }
 
@@ -15,7 +14,7 @@ room_for-requires c = most-told _ _ c.max_encoding_length.ensures _ c.in-Bytes.i
 
 pub returns-in_default-room_for : goal.returns-in_default-room_for
 returns-in_default-room_for c =
-        let both = form_small (chosen _) _ _ _ c.max_encoding_length.ensures _
+    let both = form_small (chosen _) _ _ _ c.max_encoding_length.ensures _
     c.in-Bytes.is
     (rw length-chosen (small-says _ _ _ c.room_for.ensures c.in_default-room_for.is)) in
     record { answer = both.0; memory = both.1 }

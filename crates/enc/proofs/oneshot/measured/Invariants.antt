@@ -1,10 +1,8 @@
 -- `enc::oneshot::measured` meets its contract. Assumes nothing.
 use mathlib.Core.Path.{◌≡◌}
 use Prim.Native.Nat.{◌+◌, ◌-◌, ◌≤◌}
-use native.Mathlib.Omega.{arith}
 use lib.ListN.{length, drop}
 use Rattle.cobs.specs.Code.{encode}
-use Rattle.enc.proofs.Counted.{count-last, count-zero, count-full}
 use Rattle.enc.proofs.oneshot.measured.Given as goal
 
 abbrev pub invariant-loop-start : goal.invariant-loop-start

@@ -1,37 +1,19 @@
 -- `enc::oneshot::try_encode_including_sentinels` meets its contract. Assumes nothing.
-use mathlib.Core.Path.{◌≡◌}
-use mathlib.Core.List.{◌∷◌}
-use Prim.Native.Nat.{◌-◌, ◌≤◌}
 use native.Mathlib.Omega.{arith}
-use lib.ListN.{length-take, length-drop, length, set, length-set}
-use borrow.Rule.Slice.PartMut.{put_mid}
-use borrow.Author.Rules.{rules}
-use Rattle.cobs.specs.Code.{encode, over}
+use lib.ListN.{length-take, length-drop, length-set}
 use Rattle.cobs.specs.OneShot.{zeros_around}
 use Rattle.cobs.proofs.Over.{length_over}
 use Rattle.enc.proofs.Forms.{most-told, fits-says, small-says, form-long, form_small, form-fits, length-around, inner-is, length-inner, around-is}
 use Rattle.enc.proofs.oneshot.try_encode_including_sentinels.Goals as goal
-use Rattle.enc.proofs.oneshot.try_encode_including_sentinels.Goals.{After-put-n, In-Fits, Start}
-
-abbrev entry : In-Fits → Start
-entry c = c.before.before.before.before.before.before.before.before.before.before
-
--- the encoding has room between the zeros
-fits-here : (c : In-Fits) → length (encode (entry c).args.src.now) ≤ length (entry c).args.dest.now - 2
-fits-here c = fits-says _ _ _ c.room_for.ensures c.in-Fits.is
-
-inner-here : (c : After-put-n) → let a = (entry c.before.before).args in
-    put_mid 1 (length (set a.dest.now 0 0) - 1) (set a.dest.now 0 0) c.put-n.new.dest.0 ≡ over (0 ∷ encode a.src.now) a.dest.now
-inner-here c = let a = (entry c.before.before).args in inner-is a.src.now a.dest.now _ (omega arith) c.put-n.ensures.memory
 
 pub returns-in_default : goal.returns-in_default
-returns-in_default c = 
+returns-in_default c =
     let both = form-long zeros_around _ _ _ c.max_encoding_length.ensures c.in_default.is in
     record { answer = both.0; memory = both.1 }
 
 pub returns-then-dest-lt2 : goal.returns-then-dest-lt2
 returns-then-dest-lt2 c =
-        let both = form_small zeros_around _ _ _ c.max_encoding_length.ensures _ c.in-Bytes.is
+    let both = form_small zeros_around _ _ _ c.max_encoding_length.ensures _ c.in-Bytes.is
     (omega (arith, c.if-dest-lt2.true, length-around c.args.src.now)) in
     record { answer = both.0; memory = both.1 }
 
@@ -40,7 +22,7 @@ room_for-requires c = most-told _ _ c.max_encoding_length.ensures _ c.in-Bytes.i
 
 pub returns-in_default-room_for : goal.returns-in_default-room_for
 returns-in_default-room_for c =
-        let both = form_small zeros_around _ _ _ c.max_encoding_length.ensures _ c.in-Bytes.is
+    let both = form_small zeros_around _ _ _ c.max_encoding_length.ensures _ c.in-Bytes.is
     (omega (arith, length-around c.args.src.now, small-says _ _ _ c.room_for.ensures c.in_default-room_for.is)) in
     record { answer = both.0; memory = both.1 }
 
@@ -51,22 +33,22 @@ pub slice_bounds-put-start : goal.slice_bounds-put-start
 slice_bounds-put-start c = simp length-set (omega arith)
 
 pub put-n-requires : goal.put-n-requires
-put-n-requires c = simp (length-take, length-drop, length-set) (omega (arith, fits-here c.before))
+put-n-requires c = simp (length-take, length-drop, length-set) (omega (arith, (fits-says _ _ _ c.room_for.ensures c.in-Fits.is)))
 
 pub overflow_add-dest : goal.overflow_add-dest
-overflow_add-dest c = omega (arith, c.put-n.ensures.length, fits-here c.before.before.before.before)
+overflow_add-dest c = omega (arith, c.put-n.ensures.length, (fits-says _ _ _ c.room_for.ensures c.in-Fits.is))
 
 pub bounds-dest-n : goal.bounds-dest-n
-bounds-dest-n c = rw (inner-here c.before.before, length_over) (omega (arith, c.put-n.ensures.length, fits-here c.before.before.before.before))
+bounds-dest-n c = rw ((inner-is c.args.src.now c.args.dest.now _ (omega arith) c.put-n.ensures.memory), length_over) (omega (arith, c.put-n.ensures.length, (fits-says _ _ _ c.room_for.ensures c.in-Fits.is)))
 
 pub overflow_add-result : goal.overflow_add-result
-overflow_add-result c = omega (arith, c.put-n.ensures.length, fits-here c.before.before.before.before)
+overflow_add-result c = omega (arith, c.put-n.ensures.length, (fits-says _ _ _ c.room_for.ensures c.in-Fits.is))
 
 pub shape_of-dest : goal.shape_of-dest
 shape_of-dest c =
     length-inner c.args.src.now
     c.args.dest.now _ _
-    (inner-here c.before.before)
+    (inner-is c.args.src.now c.args.dest.now _ (omega arith) c.put-n.ensures.memory)
 
 pub returns : goal.returns
 returns c =
@@ -74,7 +56,7 @@ returns c =
     let both = form-fits zeros_around _ _ _
     c.max_encoding_length.ensures _
     c.in-Bytes.is
-    (omega (arith, length-around a.src.now, fits-here c.before.before.before.before)) _
+    (omega (arith, length-around a.src.now, (fits-says _ _ _ c.room_for.ensures c.in-Fits.is))) _
     (omega (arith, length-around a.src.now, c.put-n.ensures.length)) _
-    (rw (inner-here c.before.before, c.put-n.ensures.length) (around-is a.src.now a.dest.now)) in
+    (rw ((inner-is c.args.src.now c.args.dest.now _ (omega arith) c.put-n.ensures.memory), c.put-n.ensures.length) (around-is a.src.now a.dest.now)) in
     record { answer = both.0; memory = both.1 }

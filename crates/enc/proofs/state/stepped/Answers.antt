@@ -1,7 +1,6 @@
 -- `enc::state::stepped` meets its contract. Assumes nothing.
 use native.Mathlib.Omega.{arith}
 use borrow.Author.Tests.{eq-eqb, ne_eqb}
-use borrow.Author.Rules.{rules}
 use Rattle.enc.specs.State.{step}
 use Rattle.enc.proofs.Steps.{sound}
 use Rattle.enc.proofs.state.stepped.Goals as goal

@@ -1,6 +1,5 @@
 -- `enc::stream::is_bad` meets its contract. Assumes nothing.
 use native.Mathlib.Omega.{arith}
-use borrow.Author.Rules.{rules}
 use Rattle.enc.proofs.Deciding.{refuted}
 use Rattle.enc.proofs.Pieces.{good, place-finished, good-full, good-open}
 use Rattle.enc.proofs.stream.is_bad.Goals as goal

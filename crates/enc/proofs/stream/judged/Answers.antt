@@ -1,7 +1,6 @@
 -- `enc::stream::judged` meets its contract. Assumes nothing.
 use mathlib.Core.Path.{sym, ◌∙◌}
 use native.Mathlib.Omega.{arith}
-use borrow.Author.Rules.{rules}
 use Rattle.enc.proofs.Steps.{in_group}
 use Rattle.enc.proofs.Pieces.{good, place-finished, finished-below}
 use Rattle.enc.proofs.Calls.{push-bad, push-long, push-small, push-done}

@@ -1,9 +1,6 @@
 -- `enc::stream::measured` meets its contract. Assumes nothing.
-use Prim.Native.Nat.{◌-◌}
 use native.Mathlib.Omega.{arith}
-use borrow.Author.Rules.{rules}
-use lib.ListN.{length}
-use Rattle.enc.proofs.Loops.{counting-end, Going, going_start, going_on, numbered}
+use Rattle.enc.proofs.Loops.{counting-end, going_start, going_on}
 use Rattle.enc.proofs.Steps.{in_group, moved-zero, moved-full, moved-add}
 use Rattle.enc.proofs.stream.measured.Goals as goal
 

@@ -1,7 +1,6 @@
 -- `enc::stream::put` meets its contract: what a sound state asks for is done. Assumes nothing.
 use mathlib.Core.Path.{◌∙◌}
 use native.Mathlib.Omega.{arith}
-use borrow.Author.Rules.{rules}
 use Rattle.enc.proofs.Steps.{sound}
 use Rattle.enc.proofs.Loops.{after-moved, obeyed-wrote}
 use Rattle.enc.proofs.stream.put.Goals as goal

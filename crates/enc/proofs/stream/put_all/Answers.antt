@@ -1,9 +1,7 @@
 -- `enc::stream::put_all` meets its contract. Assumes nothing.
-use Prim.Native.Nat.{◌-◌}
 use native.Mathlib.Omega.{arith}
-use lib.ListN.{length}
 use Rattle.enc.proofs.Steps.{in_group, sound}
-use Rattle.enc.proofs.Loops.{Writing, going-sound, writing_start, writing-on, writing-end}
+use Rattle.enc.proofs.Loops.{going-sound, writing_start, writing-on, writing-end}
 use Rattle.enc.proofs.stream.put_all.Goals as goal
 
 pub loop-i-init : goal.loop-i-init
@@ -24,6 +22,6 @@ pub shape_of-dest : goal.shape_of-dest
 shape_of-dest c = c.loop-i.invariant.long
 
 pub returns : goal.returns
-returns c = 
+returns c =
     let both = writing-end _ _ _ _ _ _ c.loop-i.invariant c.loop-i-test.false in
     record { next = both.0; memory = both.1 }

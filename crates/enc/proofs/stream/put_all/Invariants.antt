@@ -1,9 +1,7 @@
 -- `enc::stream::put_all` meets its contract. Assumes nothing.
 use Prim.Native.Nat.{◌-◌}
-use native.Mathlib.Omega.{arith}
 use lib.ListN.{length}
-use Rattle.enc.proofs.Steps.{in_group, sound}
-use Rattle.enc.proofs.Loops.{Writing, going-sound, writing_start, writing-on, writing-end}
+use Rattle.enc.proofs.Loops.{Writing}
 use Rattle.enc.proofs.stream.put_all.Given as goal
 
 abbrev pub invariant-loop-i : goal.invariant-loop-i

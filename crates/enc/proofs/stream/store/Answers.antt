@@ -1,6 +1,5 @@
 -- `enc::stream::store` meets its contract: past the end nothing is stored. Assumes nothing.
 use mathlib.Core.Path.{sym}
-use borrow.Author.Rules.{rules}
 use lib.Seq.{set_out}
 use Rattle.enc.proofs.stream.store.Goals as goal
 

@@ -1,6 +1,5 @@
 -- `enc::state::EncoderState::finalize` meets its contract. Assumes nothing.
 use mathlib.Core.Path.{sym, ◌∙◌}
-use borrow.Author.Rules.{rules}
 use Rattle.enc.specs.State.{state_finalize, state_finalize_told}
 use Rattle.enc.proofs.state.EncoderState.finalize.Goals as goal
 

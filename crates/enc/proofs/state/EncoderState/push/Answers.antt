@@ -1,6 +1,5 @@
 -- `enc::state::EncoderState::push` meets its contract. Assumes nothing.
 use mathlib.Core.Path.{sym, ◌∙◌}
-use borrow.Author.Rules.{rules}
 use Rattle.enc.specs.State.{state_push, state_push_told}
 use Rattle.enc.proofs.Steps.{step-told}
 use Rattle.enc.proofs.state.EncoderState.push.Goals as goal

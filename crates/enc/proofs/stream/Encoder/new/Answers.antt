@@ -1,5 +1,4 @@
 -- `enc::stream::Encoder::new` meets its contract. Assumes nothing.
-use borrow.Author.Rules.{rules}
 use Rattle.enc.proofs.stream.Encoder.new.Goals as goal
 
 pub returns : goal.returns

@@ -2,7 +2,7 @@
 use mathlib.Core.Path.{sym, ap, ◌∙◌}
 use native.Mathlib.Omega.{arith}
 use lib.ListN.{length}
-use borrow.Author.Rules.{rules}
+use borrow.Enum.Refused.{opened}
 use Rattle.enc.specs.Stream.{told}
 use Rattle.enc.proofs.Steps.{in_group}
 use Rattle.enc.proofs.Pieces.{place-finished}
@@ -10,9 +10,9 @@ use Rattle.enc.proofs.Calls.{push-taken, push-refused, push-accepted}
 use Rattle.enc.proofs.stream.Encoder.push.Goals as goal
 
 pub returns-in_default : goal.returns-in_default
-returns-in_default c = 
-    let both = push-refused _ _ c.args.dest.now c.judged-answer.result c.judged-answer.ensures c.in_default.keys2 in
-    record { answer = both.0; next = both.1; memory = both.2 }
+returns-in_default c =
+    let both = push-refused _ _ c.args.dest.now c.judged-answer.result c.judged-answer.ensures (opened c.in_default.in_default-own.keys2) in
+    record { answer = both.0; next = both.1.0; memory = both.1.1 }
 
 pub put_all-requires : goal.put_all-requires
 put_all-requires c =
@@ -22,6 +22,6 @@ put_all-requires c =
 
 pub returns : goal.returns
 returns c =
-        let both = push-accepted _ _ _ _ c.judged-answer.ensures
-    c.in-Accepted.is _ _ c.before.before.put_all_lem.ensures.0{-BAD-} c.before.before.put_all_lem.ensures.1{-BAD-} in
-    record { answer = both.0; next = both.1; memory = both.2 }
+    let both = push-accepted _ _ _ _ c.judged-answer.ensures
+    c.in-Accepted.is _ _ c.put_all.ensures.next c.put_all.ensures.memory in
+    record { answer = both.0; next = both.1.0; memory = both.1.1 }

@@ -1,5 +1,4 @@
 -- `enc::stream::Encoder::start` meets its contract. Assumes nothing.
-use borrow.Author.Rules.{rules}
 use borrow.Author.Tests.{eq-eqb, ne_eqb}
 use Rattle.enc.specs.Stream.{started, start_told}
 use Rattle.enc.proofs.stream.Encoder.start.Goals as goal
