@@ -2,6 +2,7 @@
 ghost use Rattle.std.specs.Prelude.{◌≤◌, ◌<◌, length};
 
 use crate::say;
+use std::io;
 use wire::{Receipt, Received, Wire};
 
 // Both states, how many frames have ended, and in how many pieces the next one has come.
@@ -12,38 +13,31 @@ struct Progress {
     pieces: usize,
 }
 
-fn numbered(name: &[u8], k: usize) {
-    say::text(name);
-    say::two(k);
+fn numbered(rt: &impl Print, name: &[u8], k: usize) -> io::Result<()> {
+    say::text(rt, name)?;
+    say::two(rt, k)
 }
 
 // The answer, in a column of eleven.
-fn answered(found: Received) {
+fn answered(rt: &impl Print, found: Received) -> io::Result<()> {
     match found {
-        Received::Open => {
-            say::text(b"Open       ");
-        }
+        Received::Open => say::text(rt, b"Open       "),
         Received::Missing(k) => {
-            numbered(b"Missing ", k);
-            say::text(b" ");
+            numbered(rt, b"Missing ", k)?;
+            say::text(rt, b" ")
         }
-        Received::Complete => {
-            say::text(b"Complete   ");
-        }
-        _ => {
-            say::text(b"refused    ");
-        }
+        Received::Complete => say::text(rt, b"Complete   "),
+        _ => say::text(rt, b"refused    "),
     }
 }
 
-fn in_pieces(n: usize) {
-    say::text(b"  in ");
-    say::number(n);
+fn in_pieces(rt: &impl Print, n: usize) -> io::Result<()> {
+    say::text(rt, b"  in ")?;
+    say::number(rt, n)?;
     if n == 1 {
-        say::text(b" piece    ");
-        return;
+        return say::text(rt, b" piece    ");
     }
-    say::text(b" pieces   ");
+    say::text(rt, b" pieces   ")
 }
 
 fn weighed(wire: Wire) -> usize {
@@ -57,18 +51,25 @@ fn total(wire: Wire) -> usize {
 }
 
 // One line: the frame, its pieces, the answer, and what has been weighed.
-fn line(frame: u8, pieces: usize, found: Received, before: Wire, after: Wire) {
-    say::text(b"  frame ");
-    say::two(frame as usize);
-    in_pieces(pieces);
-    answered(found);
-    say::six(weighed(after));
-    say::text(b" weighed, total ");
-    say::six(total(after));
+fn line(
+    rt: &impl Print,
+    frame: u8,
+    pieces: usize,
+    found: Received,
+    before: Wire,
+    after: Wire,
+) -> io::Result<()> {
+    say::text(rt, b"  frame ")?;
+    say::two(rt, frame as usize)?;
+    in_pieces(rt, pieces)?;
+    answered(rt, found)?;
+    say::six(rt, weighed(after))?;
+    say::text(rt, b" weighed, total ")?;
+    say::six(rt, total(after))?;
     if weighed(before) == weighed(after) {
-        say::text(b"; no new particle");
+        say::text(rt, b"; no new particle")?;
     }
-    say::text(b"\n");
+    say::text(rt, b"\n")
 }
 
 // The number of the frame that ended.
@@ -84,24 +85,24 @@ fn one_more(n: usize) -> usize {
 }
 
 // What a call said: a piece inside a frame, or the frame's end.
-fn heard(p: Progress, r: Receipt, order: &[u8]) -> Progress {
+fn heard(rt: &impl Print, p: Progress, r: Receipt, order: &[u8]) -> io::Result<Progress> {
     let found = r.answer;
     let wire = r.next;
     let pieces = one_more(p.pieces);
     if let Received::More = found {
-        return Progress {
+        return Ok(Progress {
             wire,
             frames: p.frames,
             pieces,
-        };
+        });
     }
     let before = p.wire;
-    line(number_in(order, p.frames), pieces, found, before, wire);
-    Progress {
+    line(rt, number_in(order, p.frames), pieces, found, before, wire)?;
+    Ok(Progress {
         wire,
         frames: one_more(p.frames),
         pieces: 0,
-    }
+    })
 }
 
 // So many bytes on, but at least one, and not past the end.
@@ -119,16 +120,23 @@ fn onward(at: usize, bytes: usize, end: usize) -> usize
 }
 
 // A piece: call after call while bytes of it are left.
-fn take(p: Progress, buffer: &mut [u8], table: &mut [u8], order: &[u8], piece: &[u8]) -> Progress {
+fn take(
+    rt: &impl Print,
+    p: Progress,
+    buffer: &mut [u8],
+    table: &mut [u8],
+    order: &[u8],
+    piece: &[u8],
+) -> io::Result<Progress> {
     let mut now = p;
     let mut at = 0;
     while at < piece.len() {
         let receipt = wire::receive(now.wire, buffer, table, &piece[at..]);
         let end = onward(at, receipt.consumed, piece.len());
-        now = heard(now, receipt, order);
+        now = heard(rt, now, receipt, order)?;
         at = end;
     }
-    now
+    Ok(now)
 }
 
 // How long the piece from here on is: 1 to 97 bytes.
@@ -138,13 +146,14 @@ fn cut(at: usize) -> usize {
 
 /// The first n bytes of the stream, in pieces, and the states after them.
 pub(crate) fn deliver(
+    rt: &impl Print,
     wire: Wire,
     buffer: &mut [u8],
     table: &mut [u8],
     order: &[u8],
     stream: &[u8],
     n: usize,
-) -> Wire
+) -> io::Result<Wire>
     requires { n ≤ length stream.now }
 {
     let mut p = Progress {
@@ -155,8 +164,8 @@ pub(crate) fn deliver(
     let mut at = 0;
     while at < n {
         let end = onward(at, cut(at), n);
-        p = take(p, buffer, table, order, &stream[at..end]);
+        p = take(rt, p, buffer, table, order, &stream[at..end])?;
         at = end;
     }
-    p.wire
+    Ok(p.wire)
 }

@@ -1,35 +1,35 @@
 //! What a line is made of.
-use libc::STDOUT_FILENO;
+use std::io;
 
-pub(crate) fn text(words: &[u8]) {
-    io::write_all(STDOUT_FILENO, words);
+pub(crate) fn text(rt: &impl Print, words: &[u8]) -> io::Result<()> {
+    rt.write_all(words)
 }
 
-pub(crate) fn number(n: usize) {
-    io::print_decimal(STDOUT_FILENO, n as u64);
+pub(crate) fn number(rt: &impl Print, n: usize) -> io::Result<()> {
+    print!(rt; "{n}")
 }
 
 // A number in a column of two.
-pub(crate) fn two(n: usize) {
+pub(crate) fn two(rt: &impl Print, n: usize) -> io::Result<()> {
     if n < 10 {
-        text(b" ");
+        text(rt, b" ")?;
     }
-    number(n);
+    number(rt, n)
 }
 
 // A number in a column of six.
-pub(crate) fn six(n: usize) {
+pub(crate) fn six(rt: &impl Print, n: usize) -> io::Result<()> {
     if n < 100_000 {
-        text(b" ");
+        text(rt, b" ")?;
     }
     if n < 10_000 {
-        text(b" ");
+        text(rt, b" ")?;
     }
     if n < 1_000 {
-        text(b" ");
+        text(rt, b" ")?;
     }
     if n < 100 {
-        text(b" ");
+        text(rt, b" ")?;
     }
-    two(n);
+    two(rt, n)
 }

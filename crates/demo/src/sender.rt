@@ -4,6 +4,7 @@ ghost use Rattle.std.specs.Prelude.{◌≤◌, length};
 use crate::say;
 use record::Record;
 use record::frame::FrameWritten;
+use std::io;
 
 const BATCH: u16 = 7;
 
@@ -90,8 +91,9 @@ pub(crate) fn send(order: &[u8], out: &mut [u8]) -> usize
     at
 }
 
-pub(crate) fn introduce() {
+pub(crate) fn introduce(rt: &impl Print) -> io::Result<()> {
     say::text(
+        rt,
         b"Batch 7: 100 particles, total weight 149500, in frames 0 to 12 of up to 8 records; frame 13 has the close.\n",
-    );
+    )
 }

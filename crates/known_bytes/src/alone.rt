@@ -1,73 +1,62 @@
 //! EncoderState alone: what a byte asks of the output, and the state after it.
 use crate::{say, words};
 use enc::state::{EncoderState, PushResult, StateFinished};
+use std::io;
 
-pub(crate) fn shown(s: EncoderState) {
-    say::named(words::PLACE, s.place);
-    say::named(words::CODE, s.code as usize);
+pub(crate) fn shown(rt: &impl Print, s: EncoderState) -> io::Result<()> {
+    say::named(rt, words::PLACE, s.place)?;
+    say::named(rt, words::CODE, s.code as usize)
 }
 
 // Where a code goes, and the code.
-fn modify(place: usize, code: u8) {
-    say::number(place);
-    say::word(words::SPACE);
-    say::byte(code);
+fn modify(rt: &impl Print, place: usize, code: u8) -> io::Result<()> {
+    say::number(rt, place)?;
+    say::word(rt, words::SPACE)?;
+    say::byte(rt, code)
 }
 
-fn asked(res: PushResult) {
+fn asked(rt: &impl Print, res: PushResult) -> io::Result<()> {
     match res {
         PushResult::AddSingle(b) => {
-            say::word(words::ADD_SINGLE);
-            say::byte(b);
+            say::word(rt, words::ADD_SINGLE)?;
+            say::byte(rt, b)
         }
         PushResult::ModifyFromStartAndSkip { place, code } => {
-            say::word(words::MODIFY_AND_SKIP);
-            modify(place, code);
+            say::word(rt, words::MODIFY_AND_SKIP)?;
+            modify(rt, place, code)
         }
         PushResult::ModifyFromStartAndPushAndSkip { place, code, byte } => {
-            say::word(words::MODIFY_PUSH_AND_SKIP);
-            modify(place, code);
-            say::word(words::SPACE);
-            say::byte(byte);
+            say::word(rt, words::MODIFY_PUSH_AND_SKIP)?;
+            modify(rt, place, code)?;
+            say::word(rt, words::SPACE)?;
+            say::byte(rt, byte)
         }
-        PushResult::BadState => {
-            say::word(words::BAD_STATE);
-        }
+        PushResult::BadState => say::word(rt, words::BAD_STATE),
     }
 }
 
-fn push(s: EncoderState, b: u8) {
+fn push(rt: &impl Print, s: EncoderState, b: u8) -> io::Result<()> {
     let pushed = s.push(b);
     let result = pushed.result;
     let next = pushed.next;
-    asked(result);
-    say::word(words::COMMA);
-    shown(next);
+    asked(rt, result)?;
+    say::word(rt, words::COMMA)?;
+    shown(rt, next)
 }
 
-fn finish(s: EncoderState) {
+fn finish(rt: &impl Print, s: EncoderState) -> io::Result<()> {
     let found = s.finalize();
     match found {
-        StateFinished::Modify { place, code } => {
-            modify(place, code);
-        }
-        StateFinished::BadState => {
-            say::word(words::BAD_STATE);
-        }
+        StateFinished::Modify { place, code } => modify(rt, place, code),
+        StateFinished::BadState => say::word(rt, words::BAD_STATE),
     }
 }
 
 /// `EncoderState::new`, `EncoderState::push PLACE CODE of BYTE`, `EncoderState::finalize PLACE CODE`.
-pub(crate) fn run(k: usize, place: usize, code: u8, byte: u8) {
+pub(crate) fn run(rt: &impl Print, k: usize, place: usize, code: u8, byte: u8) -> io::Result<()> {
     match k {
-        0 => {
-            shown(EncoderState::new());
-        }
-        1 => {
-            push(EncoderState { place, code }, byte);
-        }
-        _ => {
-            finish(EncoderState { place, code });
-        }
+        0 => shown(rt, EncoderState::new()),
+        1 => push(rt, EncoderState { place, code }, byte),
+        _ => finish(rt, EncoderState { place, code }),
     }
 }

@@ -9,6 +9,7 @@ use batch::Receiver;
 use dec::stream::CobsDecoder;
 use enc::stream::Encoder;
 use marks::Marks;
+use std::io;
 use wire::Wire;
 
 // Where each module's calls start in the list.
@@ -62,7 +63,7 @@ fn number(name: &[u8], count: usize, parts: usize) -> usize {
 }
 
 /// What stays from line to line beside the buffer: the streaming states, the receiving side, and marks of their own.
-#[derive(Drop)]
+#[derive(Clone, Copy)]
 pub(crate) struct Held {
     pub encoder: Encoder,
     pub decoder: CobsDecoder,
@@ -71,57 +72,60 @@ pub(crate) struct Held {
 }
 
 /// What is held after a line, and the buffer.
-#[derive(Drop)]
+#[derive(Clone, Copy)]
 pub(crate) struct After {
     pub held: Held,
     pub buffer: Bytes,
 }
 
 // The calls that keep nothing.
-fn once(k: usize, n: &[usize; 6], m: &[u8], dest: &mut [u8]) {
+fn once(rt: &impl Print, k: usize, n: &[usize; 6], m: &[u8], dest: &mut [u8]) -> io::Result<()> {
     let first = n[0];
     if k < ENCODING {
-        lengths::run(k, first);
-        return;
+        return lengths::run(rt, k, first);
     }
     if TOOLS <= k {
-        tools::run(k - TOOLS, first, n[1], m, dest);
-        return;
+        return tools::run(rt, k - TOOLS, first, n[1], m, dest);
     }
     if ALONE <= k {
-        alone::run(k - ALONE, first, (n[1] % 256) as u8, read::first(m));
-        return;
+        return alone::run(rt, k - ALONE, first, (n[1] % 256) as u8, read::first(m));
     }
     if k < DECODING {
-        encoding::run(k - ENCODING, first, m, dest);
-        say::holds(dest);
-        return;
+        encoding::run(rt, k - ENCODING, first, m, dest)?;
+        return say::holds(rt, dest);
     }
-    decoding::run(k - DECODING, (first % 256) as u8, m, dest);
-    say::holds(dest);
+    decoding::run(rt, k - DECODING, (first % 256) as u8, m, dest)?;
+    say::holds(rt, dest)
 }
 
 // The calls of the code, and of marks.
-fn coded(k: usize, n: &[usize; 6], held: Held, m: &[u8], dest: &mut [u8]) -> Held {
+fn coded(
+    rt: &impl Print,
+    k: usize,
+    n: &[usize; 6],
+    held: Held,
+    m: &[u8],
+    dest: &mut [u8],
+) -> io::Result<Held> {
     let mut next = held;
     if k < STREAMING {
-        once(k, n, m, dest);
-        return next;
+        once(rt, k, n, m, dest)?;
+        return Ok(next);
     }
     if k < FEEDING {
-        let encoder = streaming::run(k - STREAMING, n, held.encoder, m, dest);
+        let encoder = streaming::run(rt, k - STREAMING, n, held.encoder, m, dest)?;
         next.encoder = encoder;
-        return next;
+        return Ok(next);
     }
     if k < MARKING {
-        let decoder = feeding::run(k - FEEDING, n, held.decoder, m, dest);
+        let decoder = feeding::run(rt, k - FEEDING, n, held.decoder, m, dest)?;
         next.decoder = decoder;
-        return next;
+        return Ok(next);
     }
     let before = held.marks;
-    let marks = marking::run(k - MARKING, n[0], before);
+    let marks = marking::run(rt, k - MARKING, n[0], before)?;
     next.marks = marks;
-    next
+    Ok(next)
 }
 
 fn with_receiver(side: Side, receiver: Receiver) -> Side {
@@ -133,50 +137,72 @@ fn with_receiver(side: Side, receiver: Receiver) -> Side {
 }
 
 // The calls of records, batches and the wire.
-fn batched(k: usize, n: &[usize; 6], side: Side, m: &[u8], dest: &mut [u8]) -> Side {
+fn batched(
+    rt: &impl Print,
+    k: usize,
+    n: &[usize; 6],
+    side: Side,
+    m: &[u8],
+    dest: &mut [u8],
+) -> io::Result<Side> {
     if k < FRAMES {
-        records::run(k, n, m);
-        return side;
+        records::run(rt, k, n, m)?;
+        return Ok(side);
     }
     if k == FRAMES {
-        records::frame(m, dest);
-        return side;
+        records::frame(rt, m, dest)?;
+        return Ok(side);
     }
     let w = side.wire;
     if NAMING <= k {
-        naming::run(k - NAMING, n, w);
-        return side;
+        naming::run(rt, k - NAMING, n, w)?;
+        return Ok(side);
     }
     if WIRES <= k {
-        return wires::run(k - WIRES, n[0], side, m, dest);
+        return wires::run(rt, k - WIRES, n[0], side, m, dest);
     }
     let r = w.receiver;
-    let receiver = batches::run(k - BATCHES, n, r, m, dest);
-    with_receiver(side, receiver)
+    let receiver = batches::run(rt, k - BATCHES, n, r, m, dest)?;
+    Ok(with_receiver(side, receiver))
 }
 
 // Any call.
-fn answer(k: usize, n: &[usize; 6], held: Held, m: &[u8], dest: &mut [u8]) -> Held {
+fn answer(
+    rt: &impl Print,
+    k: usize,
+    n: &[usize; 6],
+    held: Held,
+    m: &[u8],
+    dest: &mut [u8],
+) -> io::Result<Held> {
     if k < RECORDS {
-        return coded(k, n, held, m, dest);
+        return coded(rt, k, n, held, m, dest);
     }
     let mut next = held;
-    let side = batched(k - RECORDS, n, held.side, m, dest);
+    let side = batched(rt, k - RECORDS, n, held.side, m, dest)?;
     next.side = side;
-    next
+    Ok(next)
 }
 
 // A message of zeros that is longer than a line's array.
-fn long(k: usize, n: &[usize; 6], held: Held, length: usize, dest: &mut [u8]) -> Held {
+fn long(
+    rt: &impl Print,
+    k: usize,
+    n: &[usize; 6],
+    held: Held,
+    length: usize,
+    dest: &mut [u8],
+) -> io::Result<Held> {
     let zeros = [0u8; 1_048_577];
     if read::MOST_ZEROS < length {
-        return held;
+        return Ok(held);
     }
-    answer(k, n, held, &zeros[0..length], dest)
+    answer(rt, k, n, held, &zeros[0..length], dest)
 }
 
 // Any call, on the parts of the arrays that count.
 fn cut(
+    rt: &impl Print,
     k: usize,
     n: &[usize; 6],
     held: Held,
@@ -184,44 +210,50 @@ fn cut(
     length: usize,
     dest: &mut [u8],
     room: usize,
-) -> Held {
+) -> io::Result<Held> {
     if dest.len() < room {
-        return held;
+        return Ok(held);
     }
     if m.len() < length {
-        return long(k, n, held, length, &mut dest[0..room]);
+        return long(rt, k, n, held, length, &mut dest[0..room]);
     }
-    answer(k, n, held, &m[0..length], &mut dest[0..room])
+    answer(rt, k, n, held, &m[0..length], &mut dest[0..room])
 }
 
-fn run_case(k: usize, case: Case, held: Held) -> After {
+fn run_case(rt: &impl Print, k: usize, case: Case, held: Held) -> io::Result<After> {
     let n = case.numbers;
     let message = case.message;
     let buffer = case.buffer;
     let m = message.all;
     let mut all = buffer.all;
-    let next = cut(k, &n, held, &m, message.len, &mut all, buffer.len);
+    let next = cut(rt, k, &n, held, &m, message.len, &mut all, buffer.len)?;
     let left = Bytes {
         all,
         len: buffer.len,
     };
-    After {
+    Ok(After {
         held: next,
         buffer: left,
-    }
+    })
 }
 
 // The line's case, run.
-fn run_line(line: &[u8], at: usize, held: Held, buffer: Bytes) -> After {
-    say::word(words::COLON);
+fn run_line(
+    rt: &impl Print,
+    line: &[u8],
+    at: usize,
+    held: Held,
+    buffer: Bytes,
+) -> io::Result<After> {
+    say::word(rt, words::COLON)?;
     let end = words::find(line, 0, b' ');
     let case = read::read(line, end + 1, buffer);
     let k = number(&line[0..end], case.count, case.parts);
     if k < UNKNOWN {
-        return run_case(k, case, held);
+        return run_case(rt, k, case, held);
     }
-    say::named(words::UNREAD, at);
-    After { held, buffer }
+    say::named(rt, words::UNREAD, at)?;
+    Ok(After { held, buffer })
 }
 
 // A heading: a line that is empty, or starts with `#`.
@@ -233,10 +265,16 @@ fn is_heading(line: &[u8]) -> bool {
 }
 
 /// Writes the line, and the answer after it.
-pub(crate) fn run(line: &[u8], at: usize, held: Held, buffer: Bytes) -> After {
-    say::text(line);
+pub(crate) fn run(
+    rt: &impl Print,
+    line: &[u8],
+    at: usize,
+    held: Held,
+    buffer: Bytes,
+) -> io::Result<After> {
+    say::text(rt, line)?;
     if is_heading(line) {
-        return After { held, buffer };
+        return Ok(After { held, buffer });
     }
-    run_line(line, at, held, buffer)
+    run_line(rt, line, at, held, buffer)
 }

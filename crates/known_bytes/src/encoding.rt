@@ -1,32 +1,21 @@
 //! One-shot encoding: the length or a refusal, and what the buffer then holds.
 use crate::{holding, say, words};
 use enc::oneshot::{Encoded, EncodedWith};
+use std::io;
 
-fn answer(found: Encoded) {
+fn answer(rt: &impl Print, found: Encoded) -> io::Result<()> {
     match found {
-        Encoded::Length(n) => {
-            say::number(n);
-        }
-        Encoded::TooLong => {
-            say::word(words::TOO_LONG);
-        }
-        Encoded::DestBufTooSmall => {
-            say::word(words::DEST_BUF_TOO_SMALL);
-        }
+        Encoded::Length(n) => say::number(rt, n),
+        Encoded::TooLong => say::word(rt, words::TOO_LONG),
+        Encoded::DestBufTooSmall => say::word(rt, words::DEST_BUF_TOO_SMALL),
     }
 }
 
-fn answer_with(found: EncodedWith) {
+fn answer_with(rt: &impl Print, found: EncodedWith) -> io::Result<()> {
     match found {
-        EncodedWith::Length(n) => {
-            say::number(n);
-        }
-        EncodedWith::TooLong => {
-            say::word(words::TOO_LONG);
-        }
-        EncodedWith::DestBufTooSmall => {
-            say::word(words::DEST_BUF_TOO_SMALL);
-        }
+        EncodedWith::Length(n) => say::number(rt, n),
+        EncodedWith::TooLong => say::word(rt, words::TOO_LONG),
+        EncodedWith::DestBufTooSmall => say::word(rt, words::DEST_BUF_TOO_SMALL),
     }
 }
 
@@ -41,15 +30,19 @@ fn plain(k: usize, m: &[u8], dest: &mut [u8]) -> Encoded {
 
 /// `encode of MESSAGE on BUFFER` and its like, `encode_with_sentinel SENTINEL of MESSAGE on BUFFER`,
 /// `encode_two CUT of MESSAGE on BUFFER`.
-pub(crate) fn run(k: usize, n: usize, m: &[u8], dest: &mut [u8]) {
+pub(crate) fn run(
+    rt: &impl Print,
+    k: usize,
+    n: usize,
+    m: &[u8],
+    dest: &mut [u8],
+) -> io::Result<()> {
     if k == 5 {
-        holding::run(n, m, dest);
-        return;
+        return holding::run(rt, n, m, dest);
     }
     if k == 4 {
         let sentinel = (n % 256) as u8;
-        answer_with(enc::oneshot::encode_with_sentinel(m, dest, sentinel));
-        return;
+        return answer_with(rt, enc::oneshot::encode_with_sentinel(m, dest, sentinel));
     }
-    answer(plain(k, m, dest));
+    answer(rt, plain(k, m, dest))
 }

@@ -1,36 +1,33 @@
 //! Two pieces through the encoder that holds its buffer: what new, push, push and finalize answer.
 use crate::{say, streaming, words};
 use held::{Opened, TwoPieces};
+use std::io;
 
-fn opened(found: Opened) {
+fn opened(rt: &impl Print, found: Opened) -> io::Result<()> {
     match found {
-        Opened::Ready => {
-            say::word(words::READY);
-        }
-        Opened::DestBufTooSmall => {
-            say::word(words::DEST_BUF_TOO_SMALL);
-        }
+        Opened::Ready => say::word(rt, words::READY),
+        Opened::DestBufTooSmall => say::word(rt, words::DEST_BUF_TOO_SMALL),
     }
 }
 
-fn answers(found: TwoPieces) {
+fn answers(rt: &impl Print, found: TwoPieces) -> io::Result<()> {
     let new = found.opened;
     let first = found.first;
     let second = found.second;
     let last = found.finished;
-    opened(new);
-    say::word(words::COMMA);
-    streaming::answer(first);
-    say::word(words::COMMA);
-    streaming::answer(second);
-    say::word(words::COMMA);
-    streaming::finished(last);
+    opened(rt, new)?;
+    say::word(rt, words::COMMA)?;
+    streaming::answer(rt, first)?;
+    say::word(rt, words::COMMA)?;
+    streaming::answer(rt, second)?;
+    say::word(rt, words::COMMA)?;
+    streaming::finished(rt, last)
 }
 
 /// The message's first `cut` bytes, then the others.
-pub(crate) fn run(cut: usize, m: &[u8], dest: &mut [u8]) {
+pub(crate) fn run(rt: &impl Print, cut: usize, m: &[u8], dest: &mut [u8]) -> io::Result<()> {
     if m.len() < cut {
-        return;
+        return Ok(());
     }
-    answers(held::encode_two(dest, &m[0..cut], &m[cut..]));
+    answers(rt, held::encode_two(dest, &m[0..cut], &m[cut..]))
 }

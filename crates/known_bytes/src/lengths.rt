@@ -1,23 +1,20 @@
 //! The two length functions.
 use crate::{say, words};
 use cobs::Length;
+use std::io;
 
-fn answer(found: Length) {
+fn answer(rt: &impl Print, found: Length) -> io::Result<()> {
     match found {
-        Length::Bytes(n) => {
-            say::number(n);
-        }
-        Length::TooLong => {
-            say::word(words::TOO_LONG);
-        }
+        Length::Bytes(n) => say::number(rt, n),
+        Length::TooLong => say::word(rt, words::TOO_LONG),
     }
 }
 
 /// `max_encoding_overhead LENGTH`, `max_encoding_length LENGTH`.
-pub(crate) fn run(k: usize, n: usize) {
+pub(crate) fn run(rt: &impl Print, k: usize, n: usize) -> io::Result<()> {
     if k == 0 {
-        answer(cobs::max_encoding_overhead(n));
+        answer(rt, cobs::max_encoding_overhead(n))
     } else {
-        answer(cobs::max_encoding_length(n));
+        answer(rt, cobs::max_encoding_length(n))
     }
 }

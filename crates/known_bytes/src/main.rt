@@ -2,6 +2,7 @@
 //! call; it is written with the answer after it, and the whole is held to the stored output. A line that starts with `#` is a heading;
 //! one that cannot be read is answered so. A number is taken modulo its field's size.
 #![tactic(auto)]
+
 mod alone;
 mod batches;
 mod cases;
@@ -20,11 +21,14 @@ mod tools;
 mod wires;
 mod words;
 
+ghost use Rattle.std.specs.Prelude.{◌≤◌, IfOk, length};
+
 use cases::Held;
 use dec::stream::CobsDecoder;
 use enc::stream::Encoder;
-use libc::STDIN_FILENO;
 use read::Bytes;
+use std::io;
+use std::io::Read;
 use wire::Wire;
 use wires::Side;
 
@@ -49,7 +53,7 @@ fn start() -> Held {
     }
 }
 
-fn lines(text: &[u8]) {
+fn lines(rt: &impl Print, text: &[u8]) -> io::Result<()> {
     let mut held = start();
     let mut buffer = Bytes {
         all: [0; 65_552],
@@ -62,19 +66,34 @@ fn lines(text: &[u8]) {
         let end = words::find(text, from, b'\n');
         at = end + 1;
         number += 1;
-        let after = cases::run(&text[from..end], number, held, buffer);
-        say::end();
+        let after = cases::run(rt, &text[from..end], number, held, buffer)?;
+        say::end(rt)?;
         held = after.held;
         buffer = after.buffer;
     }
+    Ok(())
 }
 
-fn main() {
-    let mut text = io::large_buffer();
-    let n = io::read_full(STDIN_FILENO, &mut text);
-    if n == text.len() {
-        say::text(b"the input is too long\n");
-        return;
+// Reads until `out` is full or the input ends; how many bytes now stand at its front.
+fn read_full(input: &mut impl Read, out: &mut [u8]) -> io::Result<usize>
+    ensures { IfOk result (λ n. n ≤ length out.new) }
+{
+    let mut done = 0;
+    while done < out.len() {
+        let n = input.read(&mut out[done..])?;
+        if n == 0 {
+            return Ok(done);
+        }
+        done += n;
     }
-    lines(&text[..n]);
+    Ok(done)
+}
+
+fn main(rt: HostRuntime) -> io::Result<()> {
+    let mut text = [0u8; 65_536];
+    let n = read_full(&mut rt.reader(), &mut text)?;
+    if n == text.len() {
+        return say::text(&rt, b"the input is too long\n");
+    }
+    lines(&rt, &text[..n])
 }

@@ -1,42 +1,37 @@
 //! Marks: they stay from line to line.
 use crate::{say, words};
 use marks::Marks;
+use std::io;
 
-fn shown(marks: Marks) -> Marks {
-    say::word(words::MARKS);
-    say::numbers(&marks);
-    marks
+fn shown(rt: &impl Print, marks: Marks) -> io::Result<Marks> {
+    say::word(rt, words::MARKS)?;
+    say::numbers(rt, &marks)?;
+    Ok(marks)
 }
 
-fn marked(marks: Marks, i: usize) -> Marks {
+fn marked(rt: &impl Print, marks: Marks, i: usize) -> io::Result<Marks> {
     let mut m = marks;
     marks::mark(&mut m, i);
-    shown(m)
+    shown(rt, m)
 }
 
 // The calls that change nothing.
-fn ask(k: usize, i: usize, marks: &Marks) {
+fn ask(rt: &impl Print, k: usize, i: usize, marks: &Marks) -> io::Result<()> {
     match k {
-        2 => {
-            say::flag(marks::is_marked(marks, i));
-        }
-        3 => {
-            say::number(marks::count(marks));
-        }
-        _ => {
-            say::number(marks::count_below(marks, i));
-        }
+        2 => say::flag(rt, marks::is_marked(marks, i)),
+        3 => say::number(rt, marks::count(marks)),
+        _ => say::number(rt, marks::count_below(marks, i)),
     }
 }
 
 /// `marks::none`, `marks::mark INDEX`, `marks::is_marked INDEX`, `marks::count`, `marks::count_below INDEX`.
-pub(crate) fn run(k: usize, i: usize, marks: Marks) -> Marks {
+pub(crate) fn run(rt: &impl Print, k: usize, i: usize, marks: Marks) -> io::Result<Marks> {
     match k {
-        0 => shown(marks::none()),
-        1 => marked(marks, i),
+        0 => shown(rt, marks::none()),
+        1 => marked(rt, marks, i),
         _ => {
-            ask(k, i, &marks);
-            marks
+            ask(rt, k, i, &marks)?;
+            Ok(marks)
         }
     }
 }

@@ -16,14 +16,14 @@ pub(crate) const MOST_ZEROS: usize = 1_048_577;
 
 /// Bytes and how many of them count; zeros alone may be more than the array holds. By value, since a check's time goes with what is
 /// lent as `&mut`.
-#[derive(Drop)]
+#[derive(Clone, Copy)]
 pub(crate) struct Bytes {
     pub all: [u8; 65_552],
     pub len: usize,
 }
 
 /// What a line says. A line without `on` keeps the buffer of the lines before it.
-#[derive(Drop)]
+#[derive(Clone, Copy)]
 pub(crate) struct Case {
     pub parts: usize,
     pub numbers: [usize; 6],
@@ -33,7 +33,7 @@ pub(crate) struct Case {
 }
 
 // Words that were read, and where the next one starts.
-#[derive(Drop)]
+#[derive(Clone, Copy)]
 struct Counted {
     at: usize,
     numbers: [usize; 6],
@@ -41,20 +41,20 @@ struct Counted {
 }
 
 // The same of bytes; `parts` is 0 where the word before them was not there.
-#[derive(Drop)]
+#[derive(Clone, Copy)]
 struct Span {
     parts: usize,
     at: usize,
     bytes: Bytes,
 }
 
-#[derive(Drop)]
+#[derive(Clone, Copy)]
 struct Grown {
     good: bool,
     bytes: Bytes,
 }
 
-#[derive(Drop)]
+#[derive(Clone, Copy)]
 enum Number {
     Is(usize),
     Not,
@@ -195,7 +195,7 @@ fn signed(w: &[u8]) -> Number {
     let Number::Is(n) = decimal(&w[1..]) else {
         return Number::Not;
     };
-    Number::Is(std::num::wrapping_sub_usize(0, n))
+    Number::Is(0usize.wrapping_sub(n))
 }
 
 // Up to the first word that is no number.

@@ -2,20 +2,21 @@
 use crate::{say, words};
 use record::frame::FrameWritten;
 use record::{Class, ReadAnswer, Record, WriteAnswer};
+use std::io;
 
-fn write(item: Record) {
+fn write(rt: &impl Print, item: Record) -> io::Result<()> {
     let done = record::write(item);
     let answer = done.answer;
     match answer {
         WriteAnswer::Done => {
-            say::word(words::DONE);
+            say::word(rt, words::DONE)?;
         }
         WriteAnswer::BadRecord => {
-            say::word(words::BAD_RECORD);
+            say::word(rt, words::BAD_RECORD)?;
         }
     }
-    say::word(words::SEMICOLON);
-    say::bytes(&done.bytes);
+    say::word(rt, words::SEMICOLON)?;
+    say::bytes(rt, &done.bytes)
 }
 
 // From 16 bits of two's complement.
@@ -38,26 +39,32 @@ fn long(n: usize) -> u32 {
     (n % 4_294_967_296) as u32
 }
 
-fn particle(n: &[usize; 6]) {
-    write(Record::Particle {
-        batch: short(n[0]),
-        index: short(n[1]),
-        x: place(n[2]),
-        y: place(n[3]),
-        z: place(n[4]),
-        weight: long(n[5]),
-    });
+fn particle(rt: &impl Print, n: &[usize; 6]) -> io::Result<()> {
+    write(
+        rt,
+        Record::Particle {
+            batch: short(n[0]),
+            index: short(n[1]),
+            x: place(n[2]),
+            y: place(n[3]),
+            z: place(n[4]),
+            weight: long(n[5]),
+        },
+    )
 }
 
-fn close(n: &[usize; 6]) {
-    write(Record::Close {
-        batch: short(n[0]),
-        count: short(n[1]),
-        total: long(n[2]),
-    });
+fn close(rt: &impl Print, n: &[usize; 6]) -> io::Result<()> {
+    write(
+        rt,
+        Record::Close {
+            batch: short(n[0]),
+            count: short(n[1]),
+            total: long(n[2]),
+        },
+    )
 }
 
-fn shown(item: Record) {
+fn shown(rt: &impl Print, item: Record) -> io::Result<()> {
     match item {
         Record::Particle {
             batch,
@@ -67,93 +74,67 @@ fn shown(item: Record) {
             z: _,
             weight,
         } => {
-            say::named(words::PARTICLE, batch as usize);
-            say::named(words::INDEX, index as usize);
-            say::named(words::WEIGHT, weight as usize);
+            say::named(rt, words::PARTICLE, batch as usize)?;
+            say::named(rt, words::INDEX, index as usize)?;
+            say::named(rt, words::WEIGHT, weight as usize)
         }
         Record::Close {
             batch,
             count,
             total,
         } => {
-            say::named(words::CLOSE, batch as usize);
-            say::named(words::COUNT, count as usize);
-            say::named(words::TOTAL, total as usize);
+            say::named(rt, words::CLOSE, batch as usize)?;
+            say::named(rt, words::COUNT, count as usize)?;
+            say::named(rt, words::TOTAL, total as usize)
         }
     }
 }
 
 // What is read is written again, so that x, y and z show.
-fn read(at: usize, m: &[u8]) {
+fn read(rt: &impl Print, at: usize, m: &[u8]) -> io::Result<()> {
     let found = record::read(m, at);
     match found {
         ReadAnswer::Good(item) => {
-            shown(item);
-            say::word(words::WRITTEN);
-            write(item);
+            shown(rt, item)?;
+            say::word(rt, words::WRITTEN)?;
+            write(rt, item)
         }
-        ReadAnswer::BadRecord => {
-            say::word(words::BAD_RECORD);
-        }
+        ReadAnswer::BadRecord => say::word(rt, words::BAD_RECORD),
     }
 }
 
-fn class(theirs: usize, ours: usize) {
+fn class(rt: &impl Print, theirs: usize, ours: usize) -> io::Result<()> {
     let found = record::class_of(short(theirs), short(ours));
     match found {
-        Class::Ours => {
-            say::word(words::OURS);
-        }
-        Class::Ahead => {
-            say::word(words::AHEAD);
-        }
-        Class::Stale => {
-            say::word(words::STALE);
-        }
+        Class::Ours => say::word(rt, words::OURS),
+        Class::Ahead => say::word(rt, words::AHEAD),
+        Class::Stale => say::word(rt, words::STALE),
     }
 }
 
-fn answer(found: FrameWritten) {
+fn answer(rt: &impl Print, found: FrameWritten) -> io::Result<()> {
     match found {
-        FrameWritten::Length(n) => {
-            say::number(n);
-        }
-        FrameWritten::BadLength => {
-            say::word(words::BAD_LENGTH);
-        }
-        FrameWritten::BadRecord(k) => {
-            say::numbered(words::BAD_RECORD, k);
-        }
-        FrameWritten::DestBufTooSmall => {
-            say::word(words::DEST_BUF_TOO_SMALL);
-        }
+        FrameWritten::Length(n) => say::number(rt, n),
+        FrameWritten::BadLength => say::word(rt, words::BAD_LENGTH),
+        FrameWritten::BadRecord(k) => say::numbered(rt, words::BAD_RECORD, k),
+        FrameWritten::DestBufTooSmall => say::word(rt, words::DEST_BUF_TOO_SMALL),
     }
 }
 
 /// `write_frame of MESSAGE on BUFFER`.
-pub(crate) fn frame(message: &[u8], dest: &mut [u8]) {
-    answer(record::frame::write_frame(message, dest));
-    say::holds(dest);
+pub(crate) fn frame(rt: &impl Print, message: &[u8], dest: &mut [u8]) -> io::Result<()> {
+    answer(rt, record::frame::write_frame(message, dest))?;
+    say::holds(rt, dest)
 }
 
 /// `write_particle BATCH INDEX X Y Z WEIGHT`, `write_close BATCH COUNT TOTAL`, `read AT of BYTES`,
 /// `class_of THEIRS OURS`, `is_bad_length LENGTH`. A number is taken modulo its field's size.
-pub(crate) fn run(k: usize, n: &[usize; 6], m: &[u8]) {
+pub(crate) fn run(rt: &impl Print, k: usize, n: &[usize; 6], m: &[u8]) -> io::Result<()> {
     match k {
-        0 => {
-            particle(n);
-        }
-        1 => {
-            close(n);
-        }
-        2 => {
-            read(n[0], m);
-        }
-        3 => {
-            class(n[0], n[1]);
-        }
-        _ => {
-            say::flag(record::frame::is_bad_length(n[0]));
-        }
+        0 => particle(rt, n),
+        1 => close(rt, n),
+        2 => read(rt, n[0], m),
+        3 => class(rt, n[0], n[1]),
+        _ => say::flag(rt, record::frame::is_bad_length(n[0])),
     }
 }

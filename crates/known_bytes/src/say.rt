@@ -2,27 +2,28 @@
 ghost use Rattle.std.specs.Prelude.{◌+◌, ◌<◌, ◌≤◌, length};
 
 use crate::words;
-use libc::STDOUT_FILENO;
+use std::io;
 
-pub(crate) fn text(bytes: &[u8]) {
-    io::write_all(STDOUT_FILENO, bytes);
+pub(crate) fn text(rt: &impl Print, bytes: &[u8]) -> io::Result<()> {
+    rt.write_all(bytes)
 }
 
-pub(crate) fn number(n: usize) {
-    io::print_decimal(STDOUT_FILENO, n as u64);
+pub(crate) fn number(rt: &impl Print, n: usize) -> io::Result<()> {
+    print!(rt; "{n}")
 }
 
-pub(crate) fn byte(b: u8) {
-    io::print_hex(STDOUT_FILENO, b as u64, 2);
+pub(crate) fn byte(rt: &impl Print, b: u8) -> io::Result<()> {
+    print!(rt; "{b:02x}")
 }
 
-pub(crate) fn end() {
-    text(b"\n");
+pub(crate) fn end(rt: &impl Print) -> io::Result<()> {
+    text(rt, b"\n")
 }
 
 /// A word of the answers. One list, since a check's time goes with the byte strings that are written out.
-pub(crate) fn word(k: usize) {
+pub(crate) fn word(rt: &impl Print, k: usize) -> io::Result<()> {
     words::show(
+        rt,
         b"TooLong|DestBufTooSmall|BadState|EmptyFrame|InvalidFrame |TargetBufTooSmall|More|Accepted|AddSingle |\
         ModifyFromStartAndSkip |ModifyFromStartAndPushAndSkip |NoData|DataStart|DataComplete|DataContinue |Idle|\
         Grab |GrabChain |Ready|Done|BadLength|BadRecord|Stale|Ahead|NoRoom|BeyondClose|Conflict|Open|Missing|\
@@ -30,24 +31,24 @@ pub(crate) fn word(k: usize) {
         , total |, stands |; total |place | code | full| skip|frame |, parsed |, consumed |size |, |; |;| |\
         ; holds|: |cannot read line | -|*|true|false|Nothing|Clear|Zeros|Mixed|()|marks|named;|none;",
         k,
-    );
+    )
 }
 
 /// A word and a number.
-pub(crate) fn named(k: usize, n: usize) {
-    word(k);
-    number(n);
+pub(crate) fn named(rt: &impl Print, k: usize, n: usize) -> io::Result<()> {
+    word(rt, k)?;
+    number(rt, n)
 }
 
-pub(crate) fn flag(b: bool) {
-    word(if b { words::TRUE } else { words::FALSE });
+pub(crate) fn flag(rt: &impl Print, b: bool) -> io::Result<()> {
+    word(rt, if b { words::TRUE } else { words::FALSE })
 }
 
 /// An answer and the number that it carries.
-pub(crate) fn numbered(k: usize, n: usize) {
-    word(k);
-    word(words::SPACE);
-    number(n);
+pub(crate) fn numbered(rt: &impl Print, k: usize, n: usize) -> io::Result<()> {
+    word(rt, k)?;
+    word(rt, words::SPACE)?;
+    number(rt, n)
 }
 
 // How many bytes from `from` on are the same.
@@ -67,65 +68,68 @@ fn same(s: &[u8], from: usize) -> usize
 }
 
 // How many of what comes next stand in a row.
-fn row(n: usize) {
-    word(words::SPACE);
+fn row(rt: &impl Print, n: usize) -> io::Result<()> {
+    word(rt, words::SPACE)?;
     if 1 < n {
-        number(n);
-        word(words::TIMES);
+        number(rt, n)?;
+        word(rt, words::TIMES)?;
     }
+    Ok(())
 }
 
 /// The bytes in hexadecimal, a row of equal ones as its length and the byte; `-` for none.
-pub(crate) fn bytes(s: &[u8]) {
+pub(crate) fn bytes(rt: &impl Print, s: &[u8]) -> io::Result<()> {
     if s.len() == 0 {
-        word(words::NONE);
+        word(rt, words::NONE)?;
     }
     let mut i = 0;
     while i < s.len() {
         let n = same(s, i);
-        row(n);
-        byte(s[i]);
+        row(rt, n)?;
+        byte(rt, s[i])?;
         i += n;
     }
+    Ok(())
 }
 
 /// What the buffer holds after a call.
-pub(crate) fn holds(s: &[u8]) {
-    word(words::HOLDS);
-    bytes(s);
+pub(crate) fn holds(rt: &impl Print, s: &[u8]) -> io::Result<()> {
+    word(rt, words::HOLDS)?;
+    bytes(rt, s)
 }
 
 /// The same after a call that answers nothing.
-pub(crate) fn left(s: &[u8]) {
-    word(words::UNIT);
-    holds(s);
+pub(crate) fn left(rt: &impl Print, s: &[u8]) -> io::Result<()> {
+    word(rt, words::UNIT)?;
+    holds(rt, s)
 }
 
 // Number i, if a row of n ends with it; how many there are with the next.
-fn counted(s: &[u64], i: usize, n: usize) -> usize
+fn counted(rt: &impl Print, s: &[u64], i: usize, n: usize) -> io::Result<usize>
     requires { (i < length s.now) × (n ≤ i + 1) }
     ensures { result ≤ i + 2 }
 {
     let here = s[i];
     if i + 1 < s.len() {
         if s[i + 1] == here {
-            return n + 1;
+            return Ok(n + 1);
         }
     }
-    row(n);
-    number(here as usize);
-    1
+    row(rt, n)?;
+    number(rt, here as usize)?;
+    Ok(1)
 }
 
 /// Numbers in decimal, a row of equal ones as its length and the number; `-` for none.
-pub(crate) fn numbers(s: &[u64]) {
+pub(crate) fn numbers(rt: &impl Print, s: &[u64]) -> io::Result<()> {
     if s.len() == 0 {
-        word(words::NONE);
+        word(rt, words::NONE)?;
     }
     let mut n = 1;
     let mut i = 0;
     while i < s.len() {
-        n = counted(s, i, n);
+        n = counted(rt, s, i, n)?;
         i += 1;
     }
+    Ok(())
 }

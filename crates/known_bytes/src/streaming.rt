@@ -2,17 +2,18 @@
 use crate::{alone, say, words};
 use enc::state::EncoderState;
 use enc::stream::{Accepted, Encoder, Finished, Started};
+use std::io;
 
-fn shown(e: Encoder) {
+fn shown(rt: &impl Print, e: Encoder) -> io::Result<()> {
     let state = e.state;
-    alone::shown(state);
+    alone::shown(rt, state)?;
     if e.full {
-        say::word(words::FULL);
+        say::word(rt, words::FULL)?;
     }
-    say::named(words::COUNT, e.count);
+    say::named(rt, words::COUNT, e.count)
 }
 
-fn set(n: &[usize; 6]) -> Encoder {
+fn set(rt: &impl Print, n: &[usize; 6]) -> io::Result<Encoder> {
     let state = EncoderState {
         place: n[0],
         code: (n[1] % 256) as u8,
@@ -22,78 +23,73 @@ fn set(n: &[usize; 6]) -> Encoder {
         full: n[2] != 0,
         count: n[3],
     };
-    shown(encoder);
-    encoder
+    shown(rt, encoder)?;
+    Ok(encoder)
 }
 
-fn new() -> Encoder {
+fn new(rt: &impl Print) -> io::Result<Encoder> {
     let encoder = Encoder::new();
-    shown(encoder);
-    encoder
+    shown(rt, encoder)?;
+    Ok(encoder)
 }
 
-fn start(e: Encoder, dest: &[u8]) -> Encoder {
+fn start(rt: &impl Print, e: Encoder, dest: &[u8]) -> io::Result<Encoder> {
     let Started::Ready(encoder) = Encoder::start(dest) else {
-        say::word(words::DEST_BUF_TOO_SMALL);
-        return e;
+        say::word(rt, words::DEST_BUF_TOO_SMALL)?;
+        return Ok(e);
     };
-    shown(encoder);
-    encoder
+    shown(rt, encoder)?;
+    Ok(encoder)
 }
 
-pub(crate) fn answer(found: Accepted) {
+pub(crate) fn answer(rt: &impl Print, found: Accepted) -> io::Result<()> {
     match found {
-        Accepted::Accepted => {
-            say::word(words::ACCEPTED);
-        }
-        Accepted::BadState => {
-            say::word(words::BAD_STATE);
-        }
-        Accepted::TooLong => {
-            say::word(words::TOO_LONG);
-        }
-        Accepted::DestBufTooSmall => {
-            say::word(words::DEST_BUF_TOO_SMALL);
-        }
+        Accepted::Accepted => say::word(rt, words::ACCEPTED),
+        Accepted::BadState => say::word(rt, words::BAD_STATE),
+        Accepted::TooLong => say::word(rt, words::TOO_LONG),
+        Accepted::DestBufTooSmall => say::word(rt, words::DEST_BUF_TOO_SMALL),
     }
 }
 
-fn push(e: Encoder, piece: &[u8], dest: &mut [u8]) -> Encoder {
+fn push(rt: &impl Print, e: Encoder, piece: &[u8], dest: &mut [u8]) -> io::Result<Encoder> {
     let pushed = e.push(dest, piece);
     let found = pushed.answer;
     let next = pushed.next;
-    answer(found);
-    say::word(words::COMMA);
-    shown(next);
-    say::holds(dest);
-    next
+    answer(rt, found)?;
+    say::word(rt, words::COMMA)?;
+    shown(rt, next)?;
+    say::holds(rt, dest)?;
+    Ok(next)
 }
 
-pub(crate) fn finished(found: Finished) {
+pub(crate) fn finished(rt: &impl Print, found: Finished) -> io::Result<()> {
     match found {
-        Finished::Length(n) => {
-            say::number(n);
-        }
-        Finished::BadState => {
-            say::word(words::BAD_STATE);
-        }
+        Finished::Length(n) => say::number(rt, n),
+        Finished::BadState => say::word(rt, words::BAD_STATE),
     }
 }
 
-fn finish(e: Encoder, dest: &mut [u8]) -> Encoder {
-    finished(e.finalize(dest));
-    say::holds(dest);
-    e
+fn finish(rt: &impl Print, e: Encoder, dest: &mut [u8]) -> io::Result<Encoder> {
+    finished(rt, e.finalize(dest))?;
+    say::holds(rt, dest)?;
+    Ok(e)
 }
 
 /// `Encoder::start on BUFFER`, `Encoder::push of PIECE`, `Encoder::finalize`, `Encoder::new`; and an encoder of given numbers,
 /// `Encoder PLACE CODE FULL COUNT`, also with `on BUFFER`.
-pub(crate) fn run(k: usize, n: &[usize; 6], e: Encoder, m: &[u8], dest: &mut [u8]) -> Encoder {
+pub(crate) fn run(
+    rt: &impl Print,
+    k: usize,
+    n: &[usize; 6],
+    e: Encoder,
+    m: &[u8],
+    dest: &mut [u8],
+) -> io::Result<Encoder> {
     match k {
-        0 => start(e, dest),
-        1 => push(e, m, dest),
-        2 => finish(e, dest),
-        3 => new(),
-        _ => set(n),
+        0 => start(rt, e, dest),
+        1 => push(rt, e, m, dest),
+        2 => finish(rt, e, dest),
+        3 => new(rt),
+        _ => set(rt, n),
     }
 }

@@ -2,6 +2,7 @@
 ghost use Rattle.std.specs.Prelude.{◌≤◌, length};
 
 use crate::say;
+use std::io;
 
 // The words that answers are shown in, by their places in `say::word`'s list.
 pub(crate) const TOO_LONG: usize = 0;
@@ -233,8 +234,8 @@ fn start(list: &[u8], number: usize) -> usize
 }
 
 /// Shows the word of that number.
-pub(crate) fn show(list: &[u8], number: usize) {
+pub(crate) fn show(rt: &impl Print, list: &[u8], number: usize) -> io::Result<()> {
     let from = start(list, number);
     let end = find(list, from, b'|');
-    say::text(&list[from..end]);
+    say::text(rt, &list[from..end])
 }

@@ -4,7 +4,7 @@ use enc::oneshot::Encoded;
 use enc::stream::Finished;
 
 /// An answer as its number and two values.
-#[derive(Drop)]
+#[derive(Clone, Copy)]
 pub(crate) struct Told {
     pub(crate) number: u8,
     pub(crate) first: usize,
@@ -12,7 +12,7 @@ pub(crate) struct Told {
 }
 
 /// What a case asks for: a call, as `cases` numbers them, and the numbers that some take.
-#[derive(Drop)]
+#[derive(Clone, Copy)]
 pub(crate) struct Asked {
     pub(crate) kind: usize,
     pub(crate) sentinel: u8,

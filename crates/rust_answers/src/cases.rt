@@ -3,13 +3,15 @@ ghost use Rattle.std.specs.Prelude.{◌≤◌, length};
 
 use crate::calls::{Asked, Told};
 use crate::{calls, say, text};
+use std::io;
+use std::io::{Bytes, Read};
 
 /// No case is left.
 pub(crate) const END: usize = 9;
 
 /// The next case's call, by its name's first letter.
-pub(crate) fn next_kind() -> usize {
-    match text::initial() {
+pub(crate) fn next_kind<R: Read + Drop>(input: &mut Bytes<R>) -> io::Result<usize> {
+    let kind = match text::initial(input)? {
         0x65 => 0,
         0x74 => 1,
         0x61 => 2,
@@ -20,7 +22,8 @@ pub(crate) fn next_kind() -> usize {
         0x70 => 7,
         0x66 => 8,
         _ => END,
-    }
+    };
+    Ok(kind)
 }
 
 pub(crate) fn count(tally: &mut [usize], kind: usize) {
@@ -32,22 +35,22 @@ pub(crate) fn count(tally: &mut [usize], kind: usize) {
 }
 
 // The sentinel, where the call takes one.
-fn sentinel(kind: usize) -> u8 {
+fn sentinel<R: Read + Drop>(input: &mut Bytes<R>, kind: usize) -> io::Result<u8> {
     let mut word = [0u8; 2];
     if kind % 3 == 0 {
         if 0 < kind {
-            text::bytes(&mut word);
+            text::bytes(input, &mut word)?;
         }
     }
-    word[0]
+    Ok(word[0])
 }
 
 // The length of the first piece, where there are two.
-fn cut(kind: usize) -> usize {
+fn cut<R: Read + Drop>(input: &mut Bytes<R>, kind: usize) -> io::Result<usize> {
     if kind < 7 {
-        return 0;
+        return Ok(0);
     }
-    text::decimal()
+    text::decimal(input)
 }
 
 // The destination before the call: 5A, or in place the source.
@@ -100,55 +103,62 @@ fn same_told(ours: Told, theirs: Told) -> bool {
 }
 
 // The Rust's answer: three numbers.
-fn stored() -> Told {
-    let number = (text::decimal() % 256) as u8;
-    let first = text::decimal();
-    let second = text::decimal();
-    Told {
+fn stored<R: Read + Drop>(input: &mut Bytes<R>) -> io::Result<Told> {
+    let number = (text::decimal(input)? % 256) as u8;
+    let first = text::decimal(input)?;
+    let second = text::decimal(input)?;
+    Ok(Told {
         number,
         first,
         second,
-    }
+    })
 }
 
 // The rest of a line: the source, the Rust's answer and its bytes.
-fn held_to(
+fn held_to<R: Read + Drop>(
+    rt: &impl Print,
+    input: &mut Bytes<R>,
     kind: usize,
     line: usize,
     source: &mut [u8],
     dest: &mut [u8],
     theirs: &mut [u8],
-) -> bool {
+) -> io::Result<bool> {
     let asked = Asked {
         kind,
-        sentinel: sentinel(kind),
-        cut: cut(kind),
+        sentinel: sentinel(input, kind)?,
+        cut: cut(input, kind)?,
     };
-    let room = text::decimal();
-    let n = text::bytes(source);
-    text::initial();
-    let told = stored();
-    if text::bytes(theirs) != room {
-        return false;
+    let room = text::decimal(input)?;
+    let n = text::bytes(input, source)?;
+    text::initial(input)?;
+    let told = stored(input)?;
+    if text::bytes(input, theirs)? != room {
+        return Ok(false);
     }
     if dest.len() < room {
-        return false;
+        return Ok(false);
     }
     prepare(kind, source, dest, room);
     let ours = answered(asked, source, n, dest, room);
     if same_told(ours, told) {
         if same(dest, theirs, room) {
-            return true;
+            return Ok(true);
         }
     }
-    say::differs(line, ours);
-    false
+    say::differs(rt, line, ours)?;
+    Ok(false)
 }
 
 /// Whether ours answers the case on this line as the Rust did.
-pub(crate) fn is_as_stored(kind: usize, line: usize) -> bool {
-    let mut source = io::buffer();
-    let mut dest = io::buffer();
-    let mut theirs = io::buffer();
-    held_to(kind, line, &mut source, &mut dest, &mut theirs)
+pub(crate) fn is_as_stored<R: Read + Drop>(
+    rt: &impl Print,
+    input: &mut Bytes<R>,
+    kind: usize,
+    line: usize,
+) -> io::Result<bool> {
+    let mut source = [0u8; 4_096];
+    let mut dest = [0u8; 4_096];
+    let mut theirs = [0u8; 4_096];
+    held_to(rt, input, kind, line, &mut source, &mut dest, &mut theirs)
 }

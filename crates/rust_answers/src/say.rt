@@ -1,32 +1,32 @@
 //! What is printed: a line for each call, and one for each case that is not as stored.
 use crate::calls::Told;
-use libc::STDOUT_FILENO;
+use std::io;
 
-pub(crate) fn text(words: &[u8]) {
-    io::write_all(STDOUT_FILENO, words);
+pub(crate) fn text(rt: &impl Print, words: &[u8]) -> io::Result<()> {
+    rt.write_all(words)
 }
 
-fn number(n: usize) {
-    io::print_decimal(STDOUT_FILENO, n as u64);
+fn number(rt: &impl Print, n: usize) -> io::Result<()> {
+    print!(rt; "{n}")
 }
 
-pub(crate) fn tally(name: &[u8], alike: usize, unlike: usize) {
-    text(name);
-    text(b": ");
-    number(alike);
-    text(b" as the Rust, ");
-    number(unlike);
-    text(b" not\n");
+pub(crate) fn tally(rt: &impl Print, name: &[u8], alike: usize, unlike: usize) -> io::Result<()> {
+    text(rt, name)?;
+    text(rt, b": ")?;
+    number(rt, alike)?;
+    text(rt, b" as the Rust, ")?;
+    number(rt, unlike)?;
+    text(rt, b" not\n")
 }
 
-pub(crate) fn differs(line: usize, ours: Told) {
-    text(b"line ");
-    number(line);
-    text(b": ours answers ");
-    number(ours.number as usize);
-    text(b" ");
-    number(ours.first);
-    text(b" ");
-    number(ours.second);
-    text(b"\n");
+pub(crate) fn differs(rt: &impl Print, line: usize, ours: Told) -> io::Result<()> {
+    text(rt, b"line ")?;
+    number(rt, line)?;
+    text(rt, b": ours answers ")?;
+    number(rt, ours.number as usize)?;
+    text(rt, b" ")?;
+    number(rt, ours.first)?;
+    text(rt, b" ")?;
+    number(rt, ours.second)?;
+    text(rt, b"\n")
 }

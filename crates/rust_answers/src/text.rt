@@ -1,7 +1,8 @@
 //! Words, numbers and bytes from the standard input.
-ghost use Rattle.std.specs.Prelude.{◌≤◌, ◌<◌, length};
+ghost use Rattle.std.specs.Prelude.{◌≤◌, ◌<◌, IfOk, length};
 
-use libc::STDIN_FILENO;
+use std::io;
+use std::io::{Bytes, Read};
 
 /// The end of a line, which the end of the input counts as.
 const LINE: u8 = 10;
@@ -9,26 +10,27 @@ const LINE: u8 = 10;
 /// A space; it and what is below it end a word.
 const SPACE: u8 = 32;
 
-fn byte() -> u8 {
-    let mut one = [LINE; 1];
-    io::read_full(STDIN_FILENO, &mut one);
-    one[0]
+fn byte<R: Read + Drop>(input: &mut Bytes<R>) -> io::Result<u8> {
+    match input.next() {
+        Some(read) => read,
+        None => Ok(LINE),
+    }
 }
 
 /// The next word's first letter, or an end of line; the word is passed over.
-pub(crate) fn initial() -> u8 {
-    let first = byte();
+pub(crate) fn initial<R: Read + Drop>(input: &mut Bytes<R>) -> io::Result<u8> {
+    let first = byte(input)?;
     if first <= SPACE {
-        return first;
+        return Ok(first);
     }
     let mut n: usize = 0;
     while n < 100 {
         n += 1;
-        if byte() <= SPACE {
-            return first;
+        if byte(input)? <= SPACE {
+            return Ok(first);
         }
     }
-    first
+    Ok(first)
 }
 
 // One digit more; a number that is too large stays as it is.
@@ -40,18 +42,18 @@ fn with_digit(n: usize, digit: u8) -> usize {
 }
 
 /// The next word as a decimal number.
-pub(crate) fn decimal() -> usize {
+pub(crate) fn decimal<R: Read + Drop>(input: &mut Bytes<R>) -> io::Result<usize> {
     let mut value: usize = 0;
     let mut digits: usize = 0;
     while digits < 20 {
         digits += 1;
-        let digit = byte();
+        let digit = byte(input)?;
         if digit <= SPACE {
-            return value;
+            return Ok(value);
         }
         value = with_digit(value, digit);
     }
-    value
+    Ok(value)
 }
 
 // A digit of base 16: 0 to 9 end in their value, a to f in 1 to 6.
@@ -65,21 +67,21 @@ fn nibble(digit: u8) -> u8
 }
 
 /// The next word's bytes, at the front of `out`, and how many; none for -.
-pub(crate) fn bytes(out: &mut [u8]) -> usize
-    ensures { result ≤ length out.old }
+pub(crate) fn bytes<R: Read + Drop>(input: &mut Bytes<R>, out: &mut [u8]) -> io::Result<usize>
+    ensures { IfOk result (λ n. n ≤ length out.old) }
 {
     let mut n = 0;
     while n < out.len() {
-        let high = byte();
+        let high = byte(input)?;
         if high <= SPACE {
-            return n;
+            return Ok(n);
         }
-        let low = byte();
+        let low = byte(input)?;
         if low <= SPACE {
-            return n;
+            return Ok(n);
         }
         out[n] = nibble(high) * 16 + nibble(low);
         n += 1;
     }
-    n
+    Ok(n)
 }
