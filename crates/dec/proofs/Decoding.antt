@@ -1,11 +1,11 @@
 -- A law for each way through `decode`: the first push stopped, or the zero that was missing is fed. Assumes nothing.
+use Rattle.std.specs.Prelude.{if◌then◌else◌}
 use mathlib.Core.Path.{◌≡◌, refl, sym, ap, ◌∙◌, subst}
 use mathlib.Core.Bool.{true, false}
 use mathlib.Core.List.{List, [], ◌∷◌}
 use Prim.Native.Nat.{ℕ, ◌≤◌}
 use native.Mathlib.Omega.{arith}
 use lib.ListN.{length}
-use Rattle.cobs.specs.Words.{if◌then◌else◌}
 use Rattle.cobs.specs.Code.{read, read_in}
 use Rattle.cobs.specs.Answers.{done}
 use Rattle.cobs.specs.OneShot.{meant, decoded, decode_told, decode_dest}

@@ -1,11 +1,11 @@
 -- Two results that meet a function's promise are equal, the encoder and the slice behind its reference with them, for every public
 -- function. Assumes nothing.
+use Rattle.std.specs.Prelude.{if◌then◌else◌}
 use mathlib.Core.Path.{◌≡◌, refl, sym, ap, ◌∙◌}
 use mathlib.Core.List.{List}
 use Prim.Native.Nat.{ℕ}
 use lib.ListN.{length, get_or}
 use denote.Ref.{Bor}
-use Rattle.cobs.specs.Words.{if◌then◌else◌}
 use Rattle.cobs.specs.Answers.{Told, done, is_done}
 use Rattle.cobs.proofs.Told.{one-result}
 use Rattle.enc.specs.Stream.{fresh, start_told, told, push_told, push_next, told_finished, finish_told, finish_dest}

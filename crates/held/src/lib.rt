@@ -1,5 +1,6 @@
 //! The streaming encoder that holds its output slice: thin over `enc::stream::Encoder`, which does the work by value.
 #![tactic(auto)]
+
 ghost use Rattle.std.specs.Prelude.{◌≡◌, length};
 ghost use Rattle.enc.specs.Stream.{fresh, start_told, told, push_told, told_finished, finish_told, finish_dest};
 ghost use Rattle.held.specs.Held.{told_opened, over, pushed, told_two, two_told, two_dest};
