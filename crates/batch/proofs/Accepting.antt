@@ -18,7 +18,7 @@ use Rattle.batch.specs.declared.Answer.TheVariants.{BadState, BadLength}
 use Rattle.batch.specs.declared.judge.Verdict.{Verdict}
 use Rattle.batch.specs.declared.judge.Verdict.TheVariants.{Refuse}
 use Rattle.batch.specs.contracts.judge.Verdict.{the_type}
-use Rattle.batch.proofs.Taking.{Says, was-taken}
+use Rattle.batch.proofs.Taking.{Says, was_taken}
 
 -- An answer, a state and a table that `accept` gives.
 abbrev pub Accepts : Receiver → (t f : List ℕ) → Answer → Receiver → (u : List ℕ) → Type 0
@@ -30,9 +30,9 @@ unfolding accept_told accept_next accept_table
 accepts r t f o a n u e p q s =
     (p ∙ sym (ap outcome_told e), (q ∙ sym (ap (next_after r) e), s ∙ sym (ap (table_after t) e)))
 
-refused-is : (o : Outcome) (a : Answer) → Refuse a ≡ verdict_of o → o ≡ refused a
-refused-is (refused x) a e = cc
-refused-is (taken n u) a e = let z : ◌≡◌ {A = ℕ} 0 1 = cc in absurd (omega arith)
+refused_is : (o : Outcome) (a : Answer) → Refuse a ≡ verdict_of o → o ≡ refused a
+refused_is (refused x) a e = cc
+refused_is (taken n u) a e = let z : ◌≡◌ {A = ℕ} 0 1 = cc in absurd (omega arith)
 
 module _ (r : Receiver) (t f : List ℕ) (b : Bool) (eb : b ≡ is_bad r (length t)) where
   at-state : b ≡ true → outcome r t f ≡ refused BadState
@@ -56,11 +56,11 @@ module _ (r : Receiver) (t f : List ℕ) (b : Bool) (eb : b ≡ is_bad r (length
 
       pub refused-frame : (a : Answer) → v ≡ Refuse a → Accepts r t f a r u
       refused-frame a q =
-          let e = refused-is (rest f 0 r t) a (sym q ∙ z.0) in
+          let e = refused_is (rest f 0 r t) a (sym q ∙ z.0) in
           accepts r t f (refused a) a r u (from-rest ∙ e) refl refl (z.1.1 ∙ ap (table_after t) e)
 
       pub taken-frame : OneOf (0 ∷ []) (tag_of the_type v) → (a : Answer) → told a ≡ stand_told n → Accepts r t f a n u
       taken-frame m a e =
-          let x = was-taken (rest f 0 r t) v z.0 m in
+          let x = was_taken (rest f 0 r t) v z.0 m in
           let en = z.1.0 ∙ ap (next_after r) x.2 in
           accepts r t f (taken x.0 x.1) a n u (from-rest ∙ x.2) (e ∙ ap stand_told en) en (z.1.1 ∙ ap (table_after t) x.2)

@@ -31,9 +31,9 @@ unfolding opened
 open_is batch n room s m er es em = simp (es, er, em)
 
 module _ (r : Receiver) (e : Effect) where
-  pub after-repeat : e ≡ Repeat → r ≡ after e r
+  pub after_repeat : e ≡ Repeat → r ≡ after e r
   unfolding after
-  after-repeat h = simp h
+  after_repeat h = simp h
 
   pub after_store : (i w : ℕ) → e ≡ Store i w → (m : List ℕ) → m ≡ set_mark r.marks i
       → ◌≡◌ {A = Receiver} (record { marks = m; total = r.total + w; close = r.close; slots = r.slots; batch = r.batch }) (after e r)

@@ -26,12 +26,12 @@ module _ (P : (n : ℕ) → Receiver → (t s : List ℕ) → Receiver → (t' :
   turn n k r t s r' t' (Take e) q ih h = more n k r t s e r' t' q (ih e h)
   turn n k r t s r' t' (Refuse a) q ih h = absurd (not_taken h)
 
-  pub by-records : (n k : ℕ) (r : Receiver) (t s : List ℕ) (r' : Receiver) (t' : List ℕ) → take_all n k r t s ≡ taken r' t' → P n r t s r' t'
+  pub by_records : (n k : ℕ) (r : Receiver) (t s : List ℕ) (r' : Receiver) (t' : List ℕ) → take_all n k r t s ≡ taken r' t' → P n r t s r' t'
   unfolding take_all
-  by-records zero k r t s r' t' h =
+  by_records zero k r t s r' t' h =
       let a : r ≡ r' = cc in
       let b : t ≡ t' = cc in
       subst (λ (x : Receiver). P 0 r t s x t') a (subst (λ (x : List ℕ). P 0 r t s r x) b (end r t s))
-  by-records (suc n) k r t s r' t' h =
+  by_records (suc n) k r t s r' t' h =
       turn n k r t s r' t' (verdict k r t s) refl
-      (λ e. by-records n (suc k) (after e r) (stored e t s) (drop 16 s) r' t') h
+      (λ e. by_records n (suc k) (after e r) (stored e t s) (drop 16 s) r' t') h

@@ -10,7 +10,7 @@ use borrow.Author.Tests.{ltb-false, le-ltb}
 use Rattle.cobs.specs.Words.{◌exceeds◌}
 use Rattle.marks.specs.Marks.{marked_below}
 use Rattle.marks.proofs.Marks.{set-mark-length}
-use Rattle.marks.proofs.Below.{below-le, below_none, below_new}
+use Rattle.marks.proofs.Below.{below_le, below_none, below_new}
 use Rattle.record.proofs.Round.{read-weight}
 use Rattle.batch.specs.State.{room_for, marked_in, mark_from, limit, opened, is_bad}
 use Rattle.batch.specs.Verdict.{verdict, after}
@@ -18,7 +18,7 @@ use Rattle.batch.specs.Frame.{taken, take_all}
 use Rattle.batch.specs.declared.Receiver.{Receiver}
 use Rattle.batch.specs.declared.judge.Effect.{Effect}
 use Rattle.batch.specs.declared.judge.Verdict.TheVariants.{Take}
-use Rattle.batch.proofs.Fold.{by-records}
+use Rattle.batch.proofs.Fold.{by_records}
 use Rattle.batch.proofs.Asked.{Asked, new, known, first, again, asked}
 
 -- What a state that is not bad has, with a table of n bytes.
@@ -54,9 +54,9 @@ good r n w e =
       light = ltb-false (1000000 * marked_in r) r.total p4.1;
     }
 
-pub not-bad : (r : Receiver) (n : ℕ) → Good r n → is_bad r n ≡ false
+pub not_bad : (r : Receiver) (n : ℕ) → Good r n → is_bad r n ≡ false
 unfolding is_bad
-not-bad r n g =
+not_bad r n g =
     simp (
       le-ltb (room_for n) r.slots g.room,
       le-ltb 4096 r.slots g.few,
@@ -67,7 +67,7 @@ not-bad r n g =
 
 -- a state that equals a good one
 pub still-good : (x r : Receiver) (m n : ℕ) → x ≡ r → m ≡ n → Good r n → (is_bad x m ≡ false) × (length x.marks ≡ 64)
-still-good x r m n er en g = rw (er, en) (not-bad r n g, g.words)
+still-good x r m n er en g = rw (er, en) (not_bad r n g, g.words)
 
 -- a batch just opened
 pub open-good : (batch n : ℕ) → Good (opened batch n) n
@@ -84,7 +84,7 @@ open-good batch n =
 
 -- 4,096 times 1,000,000 fits 32 bits
 pub total-fits : (r : Receiver) (n : ℕ) → Good r n → r.total ≤ 4096000000
-total-fits r n g = omega (arith, g.light, below-le r.marks 4096)
+total-fits r n g = omega (arith, g.light, below_le r.marks 4096)
 
 -- ---- one record
 
@@ -114,5 +114,5 @@ good-after k r t s e n g h = good-asked r s n g (asked k r t s e h)
 
 pub good-all : (m k : ℕ) (r : Receiver) (t s : List ℕ) (r' : Receiver) (t' : List ℕ) (n : ℕ) → take_all m k r t s ≡ taken r' t' → Good r n → Good r' n
 good-all m k r t s r' t' n e =
-    by-records (λ m r t s r' t'. Good r n → Good r' n) (λ r t s g. g)
+    by_records (λ m r t s r' t'. Good r n → Good r' n) (λ r t s g. g)
     (λ m k r t s e r' t' q ih g. ih (good-after k r t s e n g q)) m k r t s r' t' e

@@ -18,7 +18,7 @@ use Rattle.batch.specs.declared.Close.TheVariants.{Not, Taken}
 use Rattle.batch.specs.declared.judge.Effect.{Effect}
 use Rattle.batch.proofs.Asked.{Asked, new, known, first, again, asked}
 use Rattle.batch.proofs.Effects.{stored-length}
-use Rattle.batch.proofs.Fold.{by-records}
+use Rattle.batch.proofs.Fold.{by_records}
 use Rattle.batch.proofs.Good.{Good, good-all}
 use Rattle.batch.proofs.Records.{after-slots, after-batch}
 
@@ -42,17 +42,17 @@ module _ (P : Receiver → (t : List ℕ) → Receiver → (u : List ℕ) → Ty
 pub accept-length : (r : Receiver) (t f : List ℕ) → length (accept_table r t f) ≡ length t
 accept-length r t f =
     by-frame (λ r t r' t'. length t' ≡ length t) r t f refl
-    (λ r' t' e. by-records (λ n r t s r' t'. length t' ≡ length t) (λ r t s. refl) (λ n k r t s e r' t' q ih. ih ∙ stored-length e t s) (length f / 16) 0 r t f r' t' e)
+    (λ r' t' e. by_records (λ n r t s r' t'. length t' ≡ length t) (λ r t s. refl) (λ n k r t s e r' t' q ih. ih ∙ stored-length e t s) (length f / 16) 0 r t f r' t' e)
 
 pub accept-slots : (r : Receiver) (t f : List ℕ) → (accept_next r t f).slots ≡ r.slots
 accept-slots r t f =
     by-frame (λ r t r' t'. r'.slots ≡ r.slots) r t f refl
-    (λ r' t' e. by-records (λ n r t s r' t'. r'.slots ≡ r.slots) (λ r t s. refl) (λ n k r t s e r' t' q ih. ih ∙ after-slots e r) (length f / 16) 0 r t f r' t' e)
+    (λ r' t' e. by_records (λ n r t s r' t'. r'.slots ≡ r.slots) (λ r t s. refl) (λ n k r t s e r' t' q ih. ih ∙ after-slots e r) (length f / 16) 0 r t f r' t' e)
 
 pub accept-batch : (r : Receiver) (t f : List ℕ) → (accept_next r t f).batch ≡ r.batch
 accept-batch r t f =
     by-frame (λ r t r' t'. r'.batch ≡ r.batch) r t f refl
-    (λ r' t' e. by-records (λ n r t s r' t'. r'.batch ≡ r.batch) (λ r t s. refl) (λ n k r t s e r' t' q ih. ih ∙ after-batch e r) (length f / 16) 0 r t f r' t' e)
+    (λ r' t' e. by_records (λ n r t s r' t'. r'.batch ≡ r.batch) (λ r t s. refl) (λ n k r t s e r' t' q ih. ih ∙ after-batch e r) (length f / 16) 0 r t f r' t' e)
 
 -- The total of a taken close; 0 before there is one.
 abbrev pub closed_total : held.Close → ℕ
@@ -71,7 +71,7 @@ pub accept-closed : (r : Receiver) (t f : List ℕ) → Bytes f → closed_total
 accept-closed r t f b h =
     by-frame (λ r t r' t'. closed_total r.close < 4294967296 → closed_total r'.close < 4294967296) r t f (λ h. h)
     (λ r' t' e.
-    by-records (λ n r t s r' t'. Bytes s → closed_total r.close < 4294967296 → closed_total r'.close < 4294967296) (λ r t s b h. h)
+    by_records (λ n r t s r' t'. Bytes s → closed_total r.close < 4294967296 → closed_total r'.close < 4294967296) (λ r t s b h. h)
     (λ n k r t s e r' t' q ih b h. ih (bytes_drop s 16 b) (asked-closed r s b (asked k r t s e q) h)) (length f / 16) 0 r t f r' t' e b)
     h
 

@@ -18,9 +18,9 @@ use Rattle.batch.specs.declared.Receiver.{Receiver}
 use Rattle.batch.specs.declared.judge.Effect.{Effect}
 use Rattle.batch.specs.declared.judge.Effect.TheVariants.{Store}
 use Rattle.batch.proofs.Asked.{Asked, new, known, first, again, asked}
-use Rattle.batch.proofs.Fold.{by-records}
+use Rattle.batch.proofs.Fold.{by_records}
 use Rattle.batch.proofs.Good.{Good, good-after}
-use Rattle.batch.proofs.Records.{store-marks, store-others, close-marks, repeat-state}
+use Rattle.batch.proofs.Records.{store-marks, store-others, close-marks, repeat_state}
 
 -- The record is a particle of index j.
 abbrev pub is_index : ReadAnswer → (j : ℕ) → Bool
@@ -53,15 +53,15 @@ marked-after : (r : Receiver) (s : List ℕ) {e : Effect} (m j : ℕ) → Good r
 marked-after r s m j g (new batch i x y z w q in_slots in_limit free) =
     let few = g.few in
     rw q (with-new r i w j g.words (omega arith))
-marked-after r s m j g (known batch i x y z w q in_slots set) = rw (q, repeat-state r) (with-known r i j set)
+marked-after r s m j g (known batch i x y z w q in_slots set) = rw (q, repeat_state r) (with-known r i j set)
 marked-after r s m j g (first batch n t q in_slots fresh free) =
     rw (q, or-false (marked r.marks j)) (ap (λ (ws : List ℕ). marked ws j) (close-marks r n t))
-marked-after r s m j g (again batch n t q same) = rw (q, repeat-state r, or-false (marked r.marks j))
+marked-after r s m j g (again batch n t q same) = rw (q, repeat_state r, or-false (marked r.marks j))
 
 pub marks-after : (n k : ℕ) (r : Receiver) (t s : List ℕ) (r' : Receiver) (t' : List ℕ) (m : ℕ) → take_all n k r t s ≡ taken r' t' → Good r m → (j : ℕ)
     → marked r'.marks j ≡ (marked r.marks j || among n s j)
 marks-after n k r t s r' t' m e =
-    by-records (λ n r t s r' t'. Good r m → (j : ℕ) → marked r'.marks j ≡ (marked r.marks j || among n s j))
+    by_records (λ n r t s r' t'. Good r m → (j : ℕ) → marked r'.marks j ≡ (marked r.marks j || among n s j))
     (λ r t s g j. sym (or-false (marked r.marks j)))
     (λ n k r t s e r' t' q ih g j.
     ih (good-after k r t s e m g q) j

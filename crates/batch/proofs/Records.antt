@@ -95,9 +95,9 @@ close-total r n u = refl
 
 -- ---- a repeat changes nothing
 
-pub repeat-state : (r : Receiver) → after Repeat r ≡ r
+pub repeat_state : (r : Receiver) → after Repeat r ≡ r
 unfolding after
-repeat-state r = refl
+repeat_state r = refl
 
 -- ---- no record changes the slots or the batch number
 

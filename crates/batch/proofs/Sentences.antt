@@ -12,13 +12,13 @@ use Rattle.batch.specs.Sentences.{NotBad, NeverBad, RefusedUnchanged}
 use Rattle.batch.specs.declared.Receiver.{Receiver}
 use Rattle.batch.specs.declared.Close.{Close}
 use Rattle.batch.specs.declared.Close.TheVariants.{Not, Taken}
-use Rattle.batch.proofs.Good.{Good, good, not-bad, open-good}
+use Rattle.batch.proofs.Good.{Good, good, not_bad, open-good}
 use Rattle.batch.proofs.Kept.{accept-length, accept-good}
 
 -- ---- no call leads to a BadState
 
 still : (r : Receiver) (n : ℕ) → Good r n → NotBad r n
-still r n g = record { state = not-bad r n g; words = g.words }
+still r n g = record { state = not_bad r n g; words = g.words }
 
 pub never-bad : NeverBad
 never-bad = record {
@@ -49,6 +49,6 @@ unfolding stand_told
 table_kept t (refused a) h = refl
 table_kept t (taken q u) h = absurd (omega (arith, stands_from (marked_in q) q.total q.close))
 
-pub refused-unchanged : RefusedUnchanged
+pub refused_unchanged : RefusedUnchanged
 unfolding accept_told accept_next accept_table
-refused-unchanged = record { state = λ r t f. next-kept r (outcome r t f); table = λ r t f. table_kept t (outcome r t f) }
+refused_unchanged = record { state = λ r t f. next-kept r (outcome r t f); table = λ r t f. table_kept t (outcome r t f) }

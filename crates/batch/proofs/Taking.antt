@@ -84,27 +84,27 @@ says-from f at x r w t v n u er et z =
     subst (λ (y : Receiver). Says (rest f at y t) y t v n u) er (subst (λ (y : List ℕ). Says (rest f at x y) x y v n u) et z)
 
 -- the rest was refused: what it was stored over is put back
-pub was-refused : (o : Outcome) (v : Verdict) → v ≡ verdict_of o → OneOf (1 ∷ []) (tag_of the_type v) → (a : Answer) × (v ≡ Refuse a) × (o ≡ refused a)
-was-refused (refused a) v e m = (a, e, refl)
-was-refused (taken n u) v e m = absurd (miss (1 ∷ []) 0 tt (subst (λ (x : Verdict). OneOf (1 ∷ []) (tag_of the_type x)) e m))
+pub was_refused : (o : Outcome) (v : Verdict) → v ≡ verdict_of o → OneOf (1 ∷ []) (tag_of the_type v) → (a : Answer) × (v ≡ Refuse a) × (o ≡ refused a)
+was_refused (refused a) v e m = (a, e, refl)
+was_refused (taken n u) v e m = absurd (miss (1 ∷ []) 0 tt (subst (λ (x : Verdict). OneOf (1 ∷ []) (tag_of the_type x)) e m))
 
 pub says-undone : (o p : Outcome) (r : Receiver) (t s : List ℕ) (e : Effect) (v : Verdict) (u b w : List ℕ) → o ≡ p
     → v ≡ verdict_of p → OneOf (1 ∷ []) (tag_of the_type v) → u ≡ table_after (stored e t s) p → b ≡ kept_for e t → w ≡ stored e u b
     → Says o r t v r w
 says-undone o p r t s e v u b w eo ev m eu eb ew =
-    let x = was-refused p v ev m in
+    let x = was_refused p v ev m in
     let back : w ≡ t = ew ∙ ap₂ (stored e) (eu ∙ ap (table_after (stored e t s)) x.2) eb ∙ undone e t s in
     let z = says-refused o r t x.0 v x.1 (eo ∙ x.2) in
     (z.0, (z.1.0, back ∙ z.1.1))
 
 -- the rest was taken
-pub was-taken : (o : Outcome) (v : Verdict) → v ≡ verdict_of o → OneOf (0 ∷ []) (tag_of the_type v) → (n : Receiver) × (u : List ℕ) × (o ≡ taken n u)
-was-taken (refused a) v e m = absurd (miss (0 ∷ []) 1 tt (subst (λ (x : Verdict). OneOf (0 ∷ []) (tag_of the_type x)) e m))
-was-taken (taken n u) v e m = (n, u, refl)
+pub was_taken : (o : Outcome) (v : Verdict) → v ≡ verdict_of o → OneOf (0 ∷ []) (tag_of the_type v) → (n : Receiver) × (u : List ℕ) × (o ≡ taken n u)
+was_taken (refused a) v e m = absurd (miss (0 ∷ []) 1 tt (subst (λ (x : Verdict). OneOf (0 ∷ []) (tag_of the_type x)) e m))
+was_taken (taken n u) v e m = (n, u, refl)
 
 pub says-rest : (o p : Outcome) (r q : Receiver) (t t₁ : List ℕ) (v : Verdict) (n : Receiver) (u : List ℕ) → o ≡ p
     → OneOf (0 ∷ []) (tag_of the_type v) → Says p q t₁ v n u → Says o r t v n u
 says-rest o p r q t t₁ v n u eo m z =
-    let x = was-taken p v z.0 m in
+    let x = was_taken p v z.0 m in
     let e : o ≡ taken x.0 x.1 = eo ∙ x.2 in
     (z.0 ∙ ap verdict_of (sym eo), (z.1.0 ∙ ap (next_after q) x.2 ∙ sym (ap (next_after r) e), z.1.1 ∙ ap (table_after t₁) x.2 ∙ sym (ap (table_after t) e)))

@@ -120,9 +120,9 @@ module _ (k : ℕ) (r : Receiver) (i w : ℕ) where
     particle-beyond h = simp (lt-leb r.slots i h1, ← el, le-leb l i h)
 
     module _ (h2 : i < l) (m : Bool) (em : m ≡ marked r.marks i) where
-      pub particle-repeat : m ≡ true → Take Repeat ≡ on_particle k r i w
+      pub particle_repeat : m ≡ true → Take Repeat ≡ on_particle k r i w
       unfolding on_particle
-      particle-repeat h = simp (lt-leb r.slots i h1, ← el, lt-leb l i h2, ← em, h)
+      particle_repeat h = simp (lt-leb r.slots i h1, ← el, lt-leb l i h2, ← em, h)
 
       pub particle-store : m ≡ false → Take (Store i w) ≡ on_particle k r i w
       unfolding on_particle
@@ -145,9 +145,9 @@ module _ (k : ℕ) (r : Receiver) (n t : ℕ) where
       unfolding on_close
       close-total s d = simp (le-ltb r.slots n h1, e, eq-eqb first n s, ne_eqb sum t d)
 
-      pub close-repeat : first ≡ n → sum ≡ t → Take Repeat ≡ on_close k r n t
+      pub close_repeat : first ≡ n → sum ≡ t → Take Repeat ≡ on_close k r n t
       unfolding on_close
-      close-repeat s u = simp (le-ltb r.slots n h1, e, eq-eqb first n s, eq-eqb sum t u)
+      close_repeat s u = simp (le-ltb r.slots n h1, e, eq-eqb first n s, eq-eqb sum t u)
 
     module _ (e : r.close ≡ Not) (m b : ℕ) (em : m ≡ marked_below r.marks 4096) (eb : b ≡ marked_below r.marks n) where
       pub close-marked : b < m → Refuse (Conflict k) ≡ on_close k r n t
@@ -181,17 +181,17 @@ module _ (k : ℕ) (r : Receiver) (a found : ReadAnswer) (ea : a ≡ found) wher
   judge-bad o = simp (← ea, is-bad a o)
 
   module _ (item : Record) (e : a ≡ read.Good item) (b : ℕ) (eb : b ≡ batch_in item) (c : Class) (ec : told_class c ≡ told_class (class_of b r.batch)) where
-    class-is : class_of (batch_in item) r.batch ≡ c
-    class-is = sym (class-told c (class_of b r.batch) ec ∙ ap (λ (x : ℕ). class_of x r.batch) eb)
+    class_is : class_of (batch_in item) r.batch ≡ c
+    class_is = sym (class-told c (class_of b r.batch) ec ∙ ap (λ (x : ℕ). class_of x r.batch) eb)
 
     pub judge-ahead : c ≡ class.Ahead → Refuse (Ahead k) ≡ on_read k r found
     unfolding on_read
-    judge-ahead h = simp (← ea, e, class-is, h)
+    judge-ahead h = simp (← ea, e, class_is, h)
 
     pub judge-stale : c ≡ class.Stale → Refuse (Stale k) ≡ on_read k r found
     unfolding on_read
-    judge-stale h = simp (← ea, e, class-is, h)
+    judge-stale h = simp (← ea, e, class_is, h)
 
     pub judge-ours : c ≡ class.Ours → {v : Verdict} → v ≡ on_ours k r item → v ≡ on_read k r found
     unfolding on_read
-    judge-ours h q = simp (← ea, e, class-is, h) q
+    judge-ours h q = simp (← ea, e, class_is, h) q

@@ -17,13 +17,13 @@ use Rattle.blocks.specs.Blocks.{stands, each, flag, sixteen, is_clear, is_all, c
 
 -- ---- a test of each byte
 
-and-true : (a : Bool) → (a && true) ≡ a
-and-true true = refl
-and-true false = refl
+and_true : (a : Bool) → (a && true) ≡ a
+and_true true = refl
+and_true false = refl
 
-and-false : (a : Bool) → (a && false) ≡ false
-and-false true = refl
-and-false false = refl
+and_false : (a : Bool) → (a && false) ≡ false
+and_false true = refl
+and_false false = refl
 
 and_left : (a b : Bool) → (a && b) ≡ true → a ≡ true
 and_left true b e = refl
@@ -43,7 +43,7 @@ flag-none false = refl
 
 module _ (p : ℕ → Bool) where
   each_snoc : (s : List ℕ) (b : ℕ) → each p (s ++ b ∷ []) ≡ (each p s && p b)
-  each_snoc [] b = and-true (p b)
+  each_snoc [] b = and_true (p b)
   each_snoc (a ∷ s) b = ap (λ (t : Bool). p a && t) (each_snoc s b) ∙ sym (and_assoc (p a) (each p s) (p b))
 
   -- one byte more is tested
@@ -84,9 +84,9 @@ module _ (p : ℕ → Bool) where
 
 -- ---- what the two tests say
 
-pub clear-says : (s : List ℕ) (at : ℕ) → is_clear s at ≡ true → (at + 16 ≤ length s) × ((k : ℕ) → k < 16 → get_or s (at + k) 0 ≡ 0 → ⊥)
+pub clear_says : (s : List ℕ) (at : ℕ) → is_clear s at ≡ true → (at + 16 ≤ length s) × ((k : ℕ) → k < 16 → get_or s (at + k) 0 ≡ 0 → ⊥)
 unfolding is_clear
-clear-says s at e =
+clear_says s at e =
     let h = sixteen-at (λ b. not (eqb b 0)) s at e in
     (h.0, λ k l z. eqb-false (get_or s (at + k) 0) 0 (not-true (eqb (get_or s (at + k) 0) 0) (h.1 k l)) z)
 
@@ -106,11 +106,11 @@ stands-less n at h = go (stands n at) refl
     go false e = lt-leb at (n - 16) (omega (arith, leb-false (at + 16) n e))
 
 -- the test `!stand(..)`, not taken
-pub stands-yes : (n at : ℕ) {t : Bool} → t ≡ stands n at → not t ≡ false → at + 16 ≤ n
-stands-yes n at {t} e h = leb-true (at + 16) n (sym e ∙ not-false t h)
+pub stands_yes : (n at : ℕ) {t : Bool} → t ≡ stands n at → not t ≡ false → at + 16 ≤ n
+stands_yes n at {t} e h = leb-true (at + 16) n (sym e ∙ not-false t h)
 
-pub stands-no : (n at : ℕ) {t : Bool} → t ≡ stands n at → not t ≡ true → stands n at ≡ false
-stands-no n at {t} e h = sym e ∙ not-true t h
+pub stands_no : (n at : ℕ) {t : Bool} → t ≡ stands n at → not t ≡ true → stands n at ≡ false
+stands_no n at {t} e h = sym e ∙ not-true t h
 
 pub copied-fits : (d : List ℕ) (at : ℕ) (s : List ℕ) (from : ℕ) → at + 16 ≤ length d → from + 16 ≤ length s → copied d at s from ≡ paste d at (drop from s) 16
 unfolding copied
@@ -153,25 +153,25 @@ paste-block d at block s e = rw (e, take-take 16 16 s (omega arith))
 
 -- ---- flags
 
-flag-and : (a b : Bool) → bit_or (flag a) (flag b) ≡ flag (a && b)
-flag-and true true = refl
-flag-and true false = refl
-flag-and false true = refl
-flag-and false false = refl
+flag_and : (a b : Bool) → bit_or (flag a) (flag b) ≡ flag (a && b)
+flag_and true true = refl
+flag_and true false = refl
+flag_and false true = refl
+flag_and false false = refl
 
 -- one byte's flag is joined
 pub flag-turn : (p : ℕ → Bool) (s : List ℕ) (k found bit : ℕ) → k < length s → found ≡ flag (each p (take k s)) → bit ≡ flag (p (get_or s k 0))
     → bit_or found bit ≡ flag (each p (take (k + 1) s))
 flag-turn p s k found bit h e q =
-    rw (e, q) (flag-and (each p (take k s)) (p (get_or s k 0)) ∙ ap flag (sym (each_more p s 0 k (rw zero-add h) (p (get_or s k 0)) (rw zero-add))))
+    rw (e, q) (flag_and (each p (take k s)) (p (get_or s k 0)) ∙ ap flag (sym (each_more p s 0 k (rw zero-add h) (p (get_or s k 0)) (rw zero-add))))
 
 -- and all sixteen are
 pub flag-end : (p : ℕ → Bool) (s : List ℕ) (k found : ℕ) → length s ≤ k → found ≡ flag (each p (take k s)) → found ≡ flag (each p s)
 flag-end p s k found h e = e ∙ ap (λ (t : List ℕ). flag (each p t)) (take_all k s h)
 
-pub flag-zero : (t : Bool) → flag t ≡ 0 → t ≡ true
-flag-zero true e = refl
-flag-zero false e = absurd (omega arith)
+pub flag_zero : (t : Bool) → flag t ≡ 0 → t ≡ true
+flag_zero true e = refl
+flag_zero false e = absurd (omega arith)
 
 pub flag-other : (t : Bool) → (flag t ≡ 0 → ⊥) → t ≡ false
 flag-other true e = absurd (e refl)
@@ -194,12 +194,12 @@ module _ (d : List ℕ) (at : ℕ) (s : List ℕ) (from : ℕ) where
 
   module _ (h : at + 16 ≤ length d) (k : from + 16 ≤ length s) (block : List ℕ) (b : block ≡ take 16 (drop from s)) where
     pub taken-zeros : (other : ℕ) → other ≡ flag (each (λ x. eqb x 0) block) → other ≡ 0 → Zeros ≡ taken_of d at s from
-    taken-zeros other e z = sym (taken-fits h k ∙ rw (← b, flag-zero (each (λ x. eqb x 0) block) (sym e ∙ z)))
+    taken-zeros other e z = sym (taken-fits h k ∙ rw (← b, flag_zero (each (λ x. eqb x 0) block) (sym e ∙ z)))
 
-    pub taken-clear : (other hit : ℕ) → other ≡ flag (each (λ x. eqb x 0) block) → hit ≡ flag (each (λ x. not (eqb x 0)) block)
+    pub taken_clear : (other hit : ℕ) → other ≡ flag (each (λ x. eqb x 0) block) → hit ≡ flag (each (λ x. not (eqb x 0)) block)
         → (other ≡ 0 → ⊥) → hit ≡ 0 → Clear ≡ taken_of d at s from
-    taken-clear other hit e q n z =
-        sym (taken-fits h k ∙ rw (← b, flag-other (each (λ x. eqb x 0) block) (λ f. n (e ∙ f)), flag-zero (each (λ x. not (eqb x 0)) block) (sym q ∙ z)))
+    taken_clear other hit e q n z =
+        sym (taken-fits h k ∙ rw (← b, flag-other (each (λ x. eqb x 0) block) (λ f. n (e ∙ f)), flag_zero (each (λ x. not (eqb x 0)) block) (sym q ∙ z)))
 
     pub taken-mixed : (other hit : ℕ) → other ≡ flag (each (λ x. eqb x 0) block) → hit ≡ flag (each (λ x. not (eqb x 0)) block)
         → (other ≡ 0 → ⊥) → (hit ≡ 0 → ⊥) → Mixed ≡ taken_of d at s from
@@ -209,16 +209,16 @@ module _ (d : List ℕ) (at : ℕ) (s : List ℕ) (from : ℕ) where
 -- ---- what the kinds say, where sixteen bytes stand in both
 
 module _ (s : List ℕ) (from : ℕ) (h : from + 16 ≤ length s) where
-  kind-zeros : kind_of (take 16 (drop from s)) ≡ Zeros → each (λ b. eqb b 0) (take 16 (drop from s)) ≡ true
-  kind-zeros e = go (each (λ b. eqb b 0) (take 16 (drop from s))) (each (λ b. not (eqb b 0)) (take 16 (drop from s))) e
+  kind_zeros : kind_of (take 16 (drop from s)) ≡ Zeros → each (λ b. eqb b 0) (take 16 (drop from s)) ≡ true
+  kind_zeros e = go (each (λ b. eqb b 0) (take 16 (drop from s))) (each (λ b. not (eqb b 0)) (take 16 (drop from s))) e
     where
       go : (x y : Bool) → (if x then Zeros else if y then Clear else Mixed) ≡ Zeros → x ≡ true
       go true y e = refl
       go false true e = let z : ◌≡◌ {A = ℕ} 0 1 = cc in absurd (omega arith)
       go false false e = let z : ◌≡◌ {A = ℕ} 0 1 = cc in absurd (omega arith)
 
-  kind-clear : kind_of (take 16 (drop from s)) ≡ Clear → each (λ b. not (eqb b 0)) (take 16 (drop from s)) ≡ true
-  kind-clear e = go (each (λ b. eqb b 0) (take 16 (drop from s))) (each (λ b. not (eqb b 0)) (take 16 (drop from s))) e
+  kind_clear : kind_of (take 16 (drop from s)) ≡ Clear → each (λ b. not (eqb b 0)) (take 16 (drop from s)) ≡ true
+  kind_clear e = go (each (λ b. eqb b 0) (take 16 (drop from s))) (each (λ b. not (eqb b 0)) (take 16 (drop from s))) e
     where
       go : (x y : Bool) → (if x then Zeros else if y then Clear else Mixed) ≡ Clear → y ≡ true
       go true y e = let z : ◌≡◌ {A = ℕ} 0 1 = cc in absurd (omega arith)
@@ -227,10 +227,10 @@ module _ (s : List ℕ) (from : ℕ) (h : from + 16 ≤ length s) where
 
   module _ (d : List ℕ) (at : ℕ) (k : at + 16 ≤ length d) where
     -- the same that `clear16` and `all16` would say
-    pub taken-is-clear : taken_of d at s from ≡ Clear → is_clear s from ≡ true
+    pub taken_is_clear : taken_of d at s from ≡ Clear → is_clear s from ≡ true
     unfolding is_clear
-    taken-is-clear e = rw (le-leb (from + 16) (length s) h) (kind-clear (sym (taken-fits d at s from k h) ∙ e))
+    taken_is_clear e = rw (le-leb (from + 16) (length s) h) (kind_clear (sym (taken-fits d at s from k h) ∙ e))
 
-    pub taken-is-zeros : taken_of d at s from ≡ Zeros → is_all 0 s from ≡ true
+    pub taken_is_zeros : taken_of d at s from ≡ Zeros → is_all 0 s from ≡ true
     unfolding is_all
-    taken-is-zeros e = rw (le-leb (from + 16) (length s) h) (kind-zeros (sym (taken-fits d at s from k h) ∙ e))
+    taken_is_zeros e = rw (le-leb (from + 16) (length s) h) (kind_zeros (sym (taken-fits d at s from k h) ∙ e))

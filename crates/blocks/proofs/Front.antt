@@ -9,17 +9,17 @@ use lib.ListN.{length, get_or, set, take, drop}
 use Rattle.cobs.specs.Code.{masked}
 use Rattle.blocks.specs.Blocks.{masked_front}
 
-masked-suc : (s i : ℕ) (d : List ℕ) → i < length d
+masked_suc : (s i : ℕ) (d : List ℕ) → i < length d
     → set (masked_front s i d) i (bit_xor (get_or (masked_front s i d) i 0) s) ≡ masked_front s (suc i) d
 unfolding masked_front
-masked-suc s i [] h = absurd (not-suc-le-zero h)
-masked-suc s zero (b ∷ d) h = refl
-masked-suc s (suc i) (b ∷ d) h = ap (λ (t : List ℕ). bit_xor b s ∷ t) (masked-suc s i d (le_of_suc-le-suc h))
+masked_suc s i [] h = absurd (not-suc-le-zero h)
+masked_suc s zero (b ∷ d) h = refl
+masked_suc s (suc i) (b ∷ d) h = ap (λ (t : List ℕ). bit_xor b s ∷ t) (masked_suc s i d (le_of_suc-le-suc h))
 
 -- one byte more
 pub masked-turn : (s i : ℕ) (d₀ d : List ℕ) → i < length d₀ → d ≡ masked_front s i d₀
     → set d i (bit_xor (get_or d i 0) s) ≡ masked_front s (i + 1) d₀
-masked-turn s i d₀ d h e = rw (add-one i, e) (masked-suc s i d₀ h)
+masked-turn s i d₀ d h e = rw (add-one i, e) (masked_suc s i d₀ h)
 
 pub length-masked_front : (s i : ℕ) (d : List ℕ) → length (masked_front s i d) ≡ length d
 unfolding masked_front

@@ -29,10 +29,10 @@ use Rattle.wire.proofs.Accepting.{Fine, fit, keeps}
 use Rattle.wire.proofs.Wide.{delivered-bytes}
 use Rattle.wire.specs.Edges.{least, most}
 use Rattle.wire.proofs.Demand3.{demand3}
-use Rattle.wire.proofs.Edges.{empty-complete, most-met}
+use Rattle.wire.proofs.Edges.{empty_complete, most-met}
 use Rattle.dec.proofs.Good.{new-good}
 use Rattle.numbers.specs.Numbers.{numbers_of, wire_in, names, written_to}
-use Rattle.numbers.proofs.Naming.{own_back, own-named}
+use Rattle.numbers.proofs.Naming.{own_back, own_named}
 use Rattle.numbers.proofs.Within.{Within, within-fits, received-within}
 use Rattle.capi.specs.Stream.{open_state, receive_told, receive_consumed, receive_state, receive_buffer, receive_table, state_told, state_total}
 use Rattle.capi.specs.Delivery.{Lent, opens, receives, hand_over, shows, run, Lends, Demand3, Ends}
@@ -49,19 +49,19 @@ pub record Like (l : Lent) (s : Side End) : Type 0 where
 
 module _ (l : Lent) (s : Side End) (h : Like l s) where
   named : names l.numbers ≡ true
-  named = ap names h.numbers ∙ own-named (wire_of s) (within-fits (wire_of s) h.within) h.within.words
+  named = ap names h.numbers ∙ own_named (wire_of s) (within-fits (wire_of s) h.within) h.within.words
 
-  wire-is : wire_in l.numbers ≡ wire_of s
-  wire-is = ap wire_in h.numbers ∙ own_back (wire_of s) (within-fits (wire_of s) h.within)
+  wire_is : wire_in l.numbers ≡ wire_of s
+  wire_is = ap wire_in h.numbers ∙ own_back (wire_of s) (within-fits (wire_of s) h.within)
 
 -- ---- one call
 
 -- a call on a side within its types leaves one, whose numbers are those that are left
-receive-like : (l : Lent) (s : Side End) → Like l s → (p : List ℕ) → Bytes p → Same Like (receives l p) (loop.received accepting s p)
+receive_like : (l : Lent) (s : Side End) → Like l s → (p : List ℕ) → Bytes p → Same Like (receives l p) (loop.received accepting s p)
 unfolding receive_told receive_consumed receive_state receive_buffer receive_table
-receive-like l s h p b =
+receive_like l s h p b =
     let kept = received-within (wire_of s) h.within s.buffer s.state.table p h.bytes b in
-    rw (named l s h, wire-is l s h, h.buffer, h.table)
+    rw (named l s h, wire_is l s h, h.buffer, h.table)
     (record {
       answers = refl;
       takings = refl;
@@ -81,11 +81,11 @@ stands-told m t Not = refl
 stands-told m t (Taken count total) =
     by_bool (ltb m count) (λ q. rw q refl) (λ q. by_bool (eqb t total) (λ p. rw (q, p) refl) (λ p. rw (q, p) refl))
 
-shown-like : (l : Lent) (s : Side End) → Like l s → shows l ≡ accepting.shows s.state
+shown_like : (l : Lent) (s : Side End) → Like l s → shows l ≡ accepting.shows s.state
 unfolding state_told state_total stands_told stand_told
-shown-like l s h =
+shown_like l s h =
     let r = s.state.receiver in
-    rw (named l s h, wire-is l s h, h.table, fit s.state h.good.taking, stands-told _ r.total r.close) refl
+    rw (named l s h, wire_is l s h, h.table, fit s.state h.good.taking, stands-told _ r.total r.close) refl
 
 -- ---- the loop
 
@@ -94,9 +94,9 @@ each-bytes [] h = tt
 each-bytes (p ∷ ps) h = (each-front (λ b. b < 256) p (joined ps) h, each-bytes ps (each_back (λ b. b < 256) p (joined ps) h))
 
 module _ (ns : List ℕ) (d : Delivery) (p : Premises d) (c : Lends ns d) where
-  open-like : Like (opens ns d) (started d)
+  open_like : Like (opens ns d) (started d)
   unfolding open_state written_to Fine opened
-  open-like =
+  open_like =
       let good = open-good d.batch.number (length d.table) in
       record {
         numbers = rw (eq-eqb (length ns) 74 c.long) refl;
@@ -108,10 +108,10 @@ module _ (ns : List ℕ) (d : Delivery) (p : Premises d) (c : Lends ns d) where
       }
 
   -- what the caller does to the table is not seen
-  handed-like : (k : ℕ) (l : Lent) (s : Side End) → Like l s
+  handed_like : (k : ℕ) (l : Lent) (s : Side End) → Like l s
       → Like (hand_over d k l) (record { decoder = s.decoder; buffer = s.buffer; state = hand d k s.state })
   unfolding Fine
-  handed-like k l s h = record {
+  handed_like k l s h = record {
     numbers = h.numbers;
     buffer = h.buffer;
     table = ap (d.handed k) h.table;
@@ -121,24 +121,24 @@ module _ (ns : List ℕ) (d : Delivery) (p : Premises d) (c : Lends ns d) where
   }
 
   -- The loop over the C calls says what the loop over `receive` says, and its numbers are those of the states which that leaves.
-  pub run-like : AlikeTo Like (run ns d) (wire.run d)
-  run-like =
+  pub run_like : AlikeTo Like (run ns d) (wire.run d)
+  run_like =
       drive-same Like Bytes (λ q n b. bytes_drop q n b) (λ k l q. receives (hand_over d k l) q) (called accepting (hand d))
-      (λ k l s h q b. receive-like (hand_over d k l) (record { decoder = s.decoder; buffer = s.buffer; state = hand d k s.state }) (handed-like k l s h) q b)
-      shows (seen accepting (hand d)) shown-like d.pieces (each-bytes d.pieces (delivered-bytes d p)) 0 (opens ns d) (started d) open-like
+      (λ k l s h q b. receive_like (hand_over d k l) (record { decoder = s.decoder; buffer = s.buffer; state = hand d k s.state }) (handed_like k l s h) q b)
+      shows (seen accepting (hand d)) shown_like d.pieces (each-bytes d.pieces (delivered-bytes d p)) 0 (opens ns d) (started d) open_like
 
-  pub demand3-in-c : Demand3 ns d
-  demand3-in-c = record { answers = run-like.said ∙ (demand3 d p).answers; completes = (demand3 d p).completes }
+  pub demand3_in_c : Demand3 ns d
+  demand3_in_c = record { answers = run_like.said ∙ (demand3 d p).answers; completes = (demand3 d p).completes }
 
 -- ---- at both ends
 
 module _ (ns : List ℕ) (long : length ns ≡ 74) where
-  lends-most : Lends ns most
+  lends_most : Lends ns most
   unfolding most
-  lends-most = record { long = long; buffer = bytes-zeros 240 }
+  lends_most = record { long = long; buffer = bytes-zeros 240 }
 
-  pub ends-in-c : Ends ns
-  ends-in-c = record {
-    least = (run-like ns least empty-complete.premises (record { long = long; buffer = bytes-zeros 240 })).said ∙ empty-complete.answers;
-    most = (run-like ns most most-met.premises lends-most).said ∙ most-met.answers;
+  pub ends_in_c : Ends ns
+  ends_in_c = record {
+    least = (run_like ns least empty_complete.premises (record { long = long; buffer = bytes-zeros 240 })).said ∙ empty_complete.answers;
+    most = (run_like ns most most-met.premises lends_most).said ∙ most-met.answers;
   }

@@ -19,10 +19,10 @@ body-after [] t = refl
 body-after (zero ∷ s) t = refl
 body-after (suc b ∷ s) t = ap (λ (r : List ℕ). suc b ∷ r) (body-after s t)
 
-pub body-no-zero : (s : List ℕ) → NoZero (body s)
-body-no-zero [] = tt
-body-no-zero (zero ∷ s) = tt
-body-no-zero (suc b ∷ s) = (suc-le-suc zero-le, body-no-zero s)
+pub body_no_zero : (s : List ℕ) → NoZero (body s)
+body_no_zero [] = tt
+body_no_zero (zero ∷ s) = tt
+body_no_zero (suc b ∷ s) = (suc-le-suc zero-le, body_no_zero s)
 
 pub length-body : (s : List ℕ) → length (body s) ≤ length s
 length-body [] = zero-le

@@ -5,26 +5,26 @@ use Prim.Native.Nat.{ℕ, zero, suc, ◌+◌, ◌/◌, ◌≤◌, ◌<◌, max, 
 use native.Mathlib.Omega.{arith}
 use lib.ListN.{length, length-append}
 use Rattle.cobs.specs.Code.{NoZero, encode, overhead, max_length}
-use Rattle.cobs.proofs.Runs.{no-zero-append}
+use Rattle.cobs.proofs.Runs.{no_zero_append}
 use Rattle.cobs.proofs.Groups.{by-groups, encode-last, encode-full, encode-cut}
 
-pub encode-no-zero : (m : List ℕ) → NoZero (encode m)
-encode-no-zero =
+pub encode_no_zero : (m : List ℕ) → NoZero (encode m)
+encode_no_zero =
     by-groups (λ m. NoZero (encode m))
     (λ r h k. rw (encode-last r h k) (suc-le-suc zero-le, h))
-    (λ r h k a s ih. rw (encode-full r h k a s) (suc-le-suc zero-le, no-zero-append r (encode (a ∷ s)) h ih))
-    (λ r h k s ih. rw (encode-cut r h k s) (suc-le-suc zero-le, no-zero-append r (encode s) h ih))
+    (λ r h k a s ih. rw (encode-full r h k a s) (suc-le-suc zero-le, no_zero_append r (encode (a ∷ s)) h ih))
+    (λ r h k s ih. rw (encode-cut r h k s) (suc-le-suc zero-le, no_zero_append r (encode s) h ih))
 
-pub encode-nonempty : (m : List ℕ) → 0 < length (encode m)
-encode-nonempty =
+pub encode_nonempty : (m : List ℕ) → 0 < length (encode m)
+encode_nonempty =
     by-groups (λ m. 0 < length (encode m))
     (λ r h k. rw (encode-last r h k) (suc-le-suc zero-le))
     (λ r h k a s ih. rw (encode-full r h k a s) (suc-le-suc zero-le))
     (λ r h k s ih. rw (encode-cut r h k s) (suc-le-suc zero-le))
 
 -- longer than the message
-pub encode-longer : (m : List ℕ) → length m < length (encode m)
-encode-longer =
+pub encode_longer : (m : List ℕ) → length m < length (encode m)
+encode_longer =
     by-groups (λ m. length m < length (encode m))
     (λ r h k. rw (encode-last r h k) (omega arith))
     (λ r h k a s ih. rw (encode-full r h k a s, length-append r (encode (a ∷ s)), length-append r (a ∷ s)) (omega arith))

@@ -11,7 +11,7 @@ use lib.Seq.{drop-length, drop-append_seam}
 use lib.Dec.{eqb}
 use borrow.Author.Tests.{eq-eqb, ne_eqb, eqb-true}
 use Rattle.cobs.specs.Code.{NoZero, run, group, encode_in, encode}
-use Rattle.cobs.proofs.Runs.{no-zero-run, length_run, run-front, run-stops, run-all, run-zero, run-full}
+use Rattle.cobs.proofs.Runs.{no_zero_run, length_run, run-front, run-stops, run-all, run_zero, run-full}
 
 -- What holds of a last run, of a full run before more, and of a shorter run before a zero, holds of every message.
 module _ (P : List ℕ → Type 0)
@@ -37,7 +37,7 @@ module _ (P : List ℕ → Type 0)
   upto (suc f) m l =
       let e : run 254 m ++ drop (length (run 254 m)) m ≡ m = run-front 254 m in
       subst P e
-      (turn f (upto f) (run 254 m) (drop (length (run 254 m)) m) (no-zero-run 254 m) (length_run 254 m) (run-stops 254 m)
+      (turn f (upto f) (run 254 m) (drop (length (run 254 m)) m) (no_zero_run 254 m) (length_run 254 m) (run-stops 254 m)
       (subst (λ (s : List ℕ). length s ≤ suc f) (sym e) l))
 
   pub by-groups : (m : List ℕ) → P m
@@ -64,7 +64,7 @@ cut_in : (n : ℕ) (r : List ℕ) → NoZero r → length r < 254 → (s : List 
     → encode_in (suc n) (r ++ 0 ∷ s) ≡ suc (length r) ∷ (r ++ encode_in n s)
 unfolding encode_in
 cut_in n r h k s =
-    rw (run-zero 254 r s h (omega arith), drop-append_seam r (0 ∷ s), ne_eqb (length r) 254 (omega arith))
+    rw (run_zero 254 r s h (omega arith), drop-append_seam r (0 ∷ s), ne_eqb (length r) 254 (omega arith))
 
 -- ---- every count above the length gives the same
 

@@ -13,10 +13,10 @@ use borrow.Author.Tests.{le-ltb, ne_eqb}
 use Rattle.cobs.specs.Code.{encode, body, ended, over, masked}
 use Rattle.cobs.specs.Answers.{done}
 use Rattle.cobs.specs.OneShot.{leading, closing, skipped, parsed, meant, decoded, decode_told, decode_dest, in_place_told, in_place_dest, with_sentinel_told, with_sentinel_dest}
-use Rattle.cobs.proofs.Encoding.{encode-no-zero, encode-nonempty}
+use Rattle.cobs.proofs.Encoding.{encode_no_zero, encode_nonempty}
 use Rattle.cobs.proofs.Reading.{read-encode}
 use Rattle.cobs.proofs.Bodies.{body-front, body-after, leading-none, leading_zeros, closing-front, closing_after}
-use Rattle.cobs.proofs.Sentinel.{masked-twice}
+use Rattle.cobs.proofs.Sentinel.{masked_twice}
 
 some : (s t : List ℕ) (b : ℕ) → length (s ++ b ∷ t) ≡ 0 → ⊥
 some s t b e = omega (arith, length-append s (b ∷ t))
@@ -61,12 +61,12 @@ in_place-after s t u =
 
 module _ (m t : List ℕ) (e : body t ≡ []) where
   first_body : body (encode m ++ t) ≡ encode m
-  first_body = body-front (encode m) t (encode-no-zero m) e
+  first_body = body-front (encode m) t (encode_no_zero m) e
 
-  not-empty : (z : ℕ) → eqb (length (replicate z 0 ++ (encode m ++ t))) 0 ≡ false
-  not-empty z =
+  not_empty : (z : ℕ) → eqb (length (replicate z 0 ++ (encode m ++ t))) 0 ≡ false
+  not_empty z =
       ne_eqb (length (replicate z 0 ++ (encode m ++ t))) 0
-      (λ q. omega (arith, length-append (replicate z 0) (encode m ++ t), length-append (encode m) t, encode-nonempty m))
+      (λ q. omega (arith, length-append (replicate z 0) (encode m ++ t), length-append (encode m) t, encode_nonempty m))
 
   -- and with so many zeros before it
   module _ (z : ℕ) where
@@ -74,7 +74,7 @@ module _ (m t : List ℕ) (e : body t ≡ []) where
     src = replicate z 0 ++ (encode m ++ t)
 
     starts : leading src ≡ z
-    starts = leading_zeros z (encode m ++ t) ∙ omega (arith, leading-none (encode m) t (encode-no-zero m) (encode-nonempty m))
+    starts = leading_zeros z (encode m ++ t) ∙ omega (arith, leading-none (encode m) t (encode_no_zero m) (encode_nonempty m))
 
     skips : skipped src ≡ encode m ++ t
     skips = ap (λ (n : ℕ). drop n src) starts ∙ drop_at (replicate z 0) (encode m ++ t) z (length-replicate z 0)
@@ -86,7 +86,7 @@ module _ (m t : List ℕ) (e : body t ≡ []) where
     pub decode-encode : (room : ℕ) → length m ≤ room → decode_told src room ≡ done (length m) (z + length (encode m) + closing t)
     unfolding decode_told decoded parsed
     decode-encode room h =
-        rw (not-empty z, meant-encode, append-nil m, le-ltb room (length m) h, skips, starts, first_body, closing-front (encode m) t (encode-no-zero m))
+        rw (not_empty z, meant-encode, append-nil m, le-ltb room (length m) h, skips, starts, first_body, closing-front (encode m) t (encode_no_zero m))
 
     pub decode_dest-encode : (d : List ℕ) → decode_dest src d ≡ over m d
     unfolding decode_dest decoded
@@ -95,7 +95,7 @@ module _ (m t : List ℕ) (e : body t ≡ []) where
   -- in place
   pub in_place-encode : in_place_told (encode m ++ t) ≡ done (length m) (length (encode m))
   unfolding in_place_told
-  in_place-encode = rw (not-empty 0, first_body, read-encode m)
+  in_place-encode = rw (not_empty 0, first_body, read-encode m)
 
   pub in_place_dest-encode : in_place_dest (encode m ++ t) ≡ over m (encode m ++ t)
   unfolding in_place_dest
@@ -105,8 +105,8 @@ module _ (m t : List ℕ) (e : body t ≡ []) where
   module _ (s : ℕ) (d : List ℕ) (h : length m ≤ length d) where
     pub with_sentinel-encode : with_sentinel_told s (masked s (encode m ++ t)) (length d) ≡ done (length m) 0
     unfolding with_sentinel_told
-    with_sentinel-encode = rw (masked-twice s (encode m ++ t), in_place-encode, le-ltb (length d) (length m) h)
+    with_sentinel-encode = rw (masked_twice s (encode m ++ t), in_place-encode, le-ltb (length d) (length m) h)
 
     pub with_sentinel_dest-encode : with_sentinel_dest s (masked s (encode m ++ t)) d ≡ over m d
     unfolding with_sentinel_dest
-    with_sentinel_dest-encode = rw (with_sentinel-encode, masked-twice s (encode m ++ t), first_body, read-encode m)
+    with_sentinel_dest-encode = rw (with_sentinel-encode, masked_twice s (encode m ++ t), first_body, read-encode m)

@@ -25,11 +25,11 @@ drop-over (b ∷ s) (x ∷ d) zero h = absurd (not-suc-le-zero h)
 drop-over (b ∷ s) (x ∷ d) (suc n) h = drop-over s d n (le_of_suc-le-suc h)
 
 -- one byte more, stored where it belongs; without room it is left out on both sides
-pub over-snoc : (s : List ℕ) (b : ℕ) (d : List ℕ) → set (over s d) (length s) b ≡ over (s ++ b ∷ []) d
-over-snoc [] b [] = refl
-over-snoc [] b (x ∷ d) = refl
-over-snoc (a ∷ s) b [] = refl
-over-snoc (a ∷ s) b (x ∷ d) = ap (λ (t : List ℕ). a ∷ t) (over-snoc s b d)
+pub over_snoc : (s : List ℕ) (b : ℕ) (d : List ℕ) → set (over s d) (length s) b ≡ over (s ++ b ∷ []) d
+over_snoc [] b [] = refl
+over_snoc [] b (x ∷ d) = refl
+over_snoc (a ∷ s) b [] = refl
+over_snoc (a ∷ s) b (x ∷ d) = ap (λ (t : List ℕ). a ∷ t) (over_snoc s b d)
 
 -- one of the bytes, stored anew
 pub over-set : (p : List ℕ) (x : ℕ) (r : List ℕ) (c : ℕ) (d : List ℕ) → set (over (p ++ x ∷ r) d) (length p) c ≡ over (p ++ c ∷ r) d

@@ -11,9 +11,9 @@ use lib.Dec.{eqb}
 use lib.Seq.{length-take-le, take_at, drop_at, drop-length, drop-append-add}
 use borrow.Author.Tests.{ne_eqb, lt-ltb, le-ltb}
 use Rattle.cobs.specs.Code.{NoZero, encode, cut, ended, onto, zero_after, read_in, read}
-use Rattle.cobs.proofs.Runs.{no-zero-back}
+use Rattle.cobs.proofs.Runs.{no_zero_back}
 use Rattle.cobs.proofs.Groups.{by-groups, encode-last, encode-full, encode-cut}
-use Rattle.cobs.proofs.Encoding.{encode-nonempty}
+use Rattle.cobs.proofs.Encoding.{encode_nonempty}
 
 -- What holds of no body, of a short group, of a last group, and of a group before more, holds of every body.
 module _ (P : List ℕ → Type 0) (empty : P []) (short : (c : ℕ) (s : List ℕ) → length s < pred c → P (c ∷ s))
@@ -61,12 +61,12 @@ more_in n c r k d s =
 abbrev Same : List ℕ → Type 0
 Same b = (f g : ℕ) → length b ≤ f → length b ≤ g → read_in f b ≡ read_in g b
 
-same-empty : Same []
+same_empty : Same []
 unfolding read_in
-same-empty zero zero l₁ l₂ = refl
-same-empty zero (suc g) l₁ l₂ = refl
-same-empty (suc f) zero l₁ l₂ = refl
-same-empty (suc f) (suc g) l₁ l₂ = refl
+same_empty zero zero l₁ l₂ = refl
+same_empty zero (suc g) l₁ l₂ = refl
+same_empty (suc f) zero l₁ l₂ = refl
+same_empty (suc f) (suc g) l₁ l₂ = refl
 
 -- both counts are at least 1
 both : (c : ℕ) (s : List ℕ) → ((f g : ℕ) → length s ≤ f → length s ≤ g → read_in (suc f) (c ∷ s) ≡ read_in (suc g) (c ∷ s)) → Same (c ∷ s)
@@ -76,7 +76,7 @@ both c s h (suc f) (suc g) l₁ l₂ = h f g (omega arith) (omega arith)
 
 same : (b : List ℕ) → Same b
 same =
-    by_codes Same same-empty
+    by_codes Same same_empty
     (λ c s h. both c s (λ f g l₁ l₂. short_in f c s h ∙ sym (short_in g c s h)))
     (λ c r k. both c r (λ f g l₁ l₂. last_in f c r k ∙ sym (last_in g c r k)))
     (λ c r k d s ih.
@@ -87,9 +87,9 @@ same =
 -- ---- the equations of `read`
 
 -- no group
-pub read-empty : read [] ≡ cut []
+pub read_empty : read [] ≡ cut []
 unfolding read read_in
-read-empty = refl
+read_empty = refl
 
 -- a group with too few bytes after its code
 pub read_short : (c : ℕ) (s : List ℕ) → length s < pred c → read (c ∷ s) ≡ cut s
@@ -121,17 +121,17 @@ read-encode =
     (λ r h k. ap read (encode-last r h k) ∙ read-last (suc (length r)) r refl)
     (λ r h k a s ih.
     ap read (encode-full r h k a s)
-    ∙ read-on 255 r (encode (a ∷ s)) k (encode-nonempty (a ∷ s))
+    ∙ read-on 255 r (encode (a ∷ s)) k (encode_nonempty (a ∷ s))
     ∙ rw (ih, append-nil r))
     (λ r h k s ih.
     ap read (encode-cut r h k s)
-    ∙ read-on (suc (length r)) r (encode s) refl (encode-nonempty s)
+    ∙ read-on (suc (length r)) r (encode s) refl (encode_nonempty s)
     ∙ rw (ih, ne_eqb (suc (length r)) 255 (omega arith), append_assoc r (0 ∷ []) s))
 
 -- ---- decoded bytes are fewer than the body's
 
-zero_after-le : (c : ℕ) → length (zero_after c) ≤ 1
-zero_after-le c = go (eqb c 255) refl
+zero_after_le : (c : ℕ) → length (zero_after c) ≤ 1
+zero_after_le c = go (eqb c 255) refl
   where
     go : (t : Bool) → eqb c 255 ≡ t → length (zero_after c) ≤ 1
     go true e = rw e zero-le
@@ -147,7 +147,7 @@ read-fewer =
     (λ c r h k. rw (read-last c r h) (omega arith))
     (λ c r h d s ih k.
     rw (read_more c r h d s)
-    (omega (arith, ih (suc-le-suc zero-le), length-append r (d ∷ s), length-append (r ++ zero_after c) (read (d ∷ s)).groups, length-append r (zero_after c), zero_after-le c)))
+    (omega (arith, ih (suc-le-suc zero-le), length-append r (d ∷ s), length-append (r ++ zero_after c) (read (d ∷ s)).groups, length-append r (zero_after c), zero_after_le c)))
 
 -- ---- the offset of a short group: there its code stands, with too few bytes after it
 
@@ -159,7 +159,7 @@ short-more : (c : ℕ) (r : List ℕ) → length r ≡ pred c → (d : ℕ) (s :
 short-more zero r k d s ih z h e = absurd (not-suc-le-zero z.0)
 short-more (suc n) r k d s ih z h e =
     let w : (read (d ∷ s)).whole ≡ false = rw (read_more (suc n) r k d s) at e in
-    let t = ih (no-zero-back r (d ∷ s) z.1) (suc-le-suc zero-le) w in
+    let t = ih (no_zero_back r (d ∷ s) z.1) (suc-le-suc zero-le) w in
     rw (read_more (suc n) r k d s, w)
     (t.0, (ap (λ (m : ℕ). drop m (suc n ∷ (r ++ d ∷ s))) (suc-add n (read (d ∷ s)).offset) ∙ ap (λ (m : ℕ). drop (m + (read (d ∷ s)).offset) (r ++ d ∷ s)) (sym k) ∙ drop-append-add r (d ∷ s) (read (d ∷ s)).offset ∙ t.1.0, t.1.1))
 

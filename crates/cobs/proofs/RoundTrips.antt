@@ -14,7 +14,7 @@ use Rattle.cobs.specs.Answers.{Told, done, too_long, dest_buf_too_small, longest
 use Rattle.cobs.specs.OneShot.{Form, zeros_around, finished, encode_told, encode_dest, decode_told, decode_dest, in_place_told, in_place_dest, size_alone, with_sentinel_told, with_sentinel_dest}
 use Rattle.cobs.specs.RoundTrips.{Back, RoundTrips, Ends}
 use Rattle.cobs.proofs.Over.{over-fits}
-use Rattle.cobs.proofs.Sentinel.{masked-twice}
+use Rattle.cobs.proofs.Sentinel.{masked_twice}
 use Rattle.cobs.proofs.OneShot.{decode-encode, decode_dest-encode, in_place-encode, in_place_dest-encode, with_sentinel-encode, with_sentinel_dest-encode}
 
 -- ---- what an encoding call writes
@@ -72,23 +72,23 @@ module _ (m : List ℕ) where
     memory = rw whole at (with_sentinel_dest-encode m [] refl s d h);
   }
 
-  pub round-trips : RoundTrips m
+  pub round_trips : RoundTrips m
   unfolding finished
-  round-trips = record {
+  round_trips = record {
     written = λ form d h. written form m d h;
     decode = decodes;
     decode_zeros = decodes-zeros;
     report = placed_back (length (encode m)) (in_place_told (encode m)) answers;
     in_place = placed_back 0 (size_alone (in_place_told (encode m))) (ap size_alone answers);
-    in_place_sentinel = λ s. rw (masked-twice s (encode m)) (placed_back 0 (size_alone (in_place_told (encode m))) (ap size_alone answers));
+    in_place_sentinel = λ s. rw (masked_twice s (encode m)) (placed_back 0 (size_alone (in_place_told (encode m))) (ap size_alone answers));
     with_sentinel = with-sentinel;
   }
 
 pub ends : Ends
 unfolding finished encode encode_in
 ends = record {
-  nothing = (round-trips []).decode [] zero-le;
-  full = (round-trips (replicate 254 1)).decode (replicate 254 0) (omega arith);
-  nothing_sentinel = (round-trips []).with_sentinel 255 [] zero-le;
-  full_sentinel = (round-trips (replicate 254 1)).with_sentinel 255 (replicate 254 0) (omega arith);
+  nothing = (round_trips []).decode [] zero-le;
+  full = (round_trips (replicate 254 1)).decode (replicate 254 0) (omega arith);
+  nothing_sentinel = (round_trips []).with_sentinel 255 [] zero-le;
+  full_sentinel = (round_trips (replicate 254 1)).with_sentinel 255 (replicate 254 0) (omega arith);
 }

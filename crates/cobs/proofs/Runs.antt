@@ -21,20 +21,20 @@ module _ (P : ℕ → Type 0) where
   each_back [] s h = h
   each_back (b ∷ r) s h = each_back r s h.1
 
-pub no-zero-append : (r s : List ℕ) → NoZero r → NoZero s → NoZero (r ++ s)
-no-zero-append r s g h = each_append (λ b. 0 < b) r s g h
+pub no_zero_append : (r s : List ℕ) → NoZero r → NoZero s → NoZero (r ++ s)
+no_zero_append r s g h = each_append (λ b. 0 < b) r s g h
 
-pub no-zero-front : (r s : List ℕ) → NoZero (r ++ s) → NoZero r
-no-zero-front r s h = each-front (λ b. 0 < b) r s h
+pub no_zero_front : (r s : List ℕ) → NoZero (r ++ s) → NoZero r
+no_zero_front r s h = each-front (λ b. 0 < b) r s h
 
-pub no-zero-back : (r s : List ℕ) → NoZero (r ++ s) → NoZero s
-no-zero-back r s h = each_back (λ b. 0 < b) r s h
+pub no_zero_back : (r s : List ℕ) → NoZero (r ++ s) → NoZero s
+no_zero_back r s h = each_back (λ b. 0 < b) r s h
 
-pub no-zero-run : (n : ℕ) (m : List ℕ) → NoZero (run n m)
-no-zero-run zero m = tt
-no-zero-run (suc n) [] = tt
-no-zero-run (suc n) (zero ∷ m) = tt
-no-zero-run (suc n) (suc b ∷ m) = (suc-le-suc zero-le, no-zero-run n m)
+pub no_zero_run : (n : ℕ) (m : List ℕ) → NoZero (run n m)
+no_zero_run zero m = tt
+no_zero_run (suc n) [] = tt
+no_zero_run (suc n) (zero ∷ m) = tt
+no_zero_run (suc n) (suc b ∷ m) = (suc-le-suc zero-le, no_zero_run n m)
 
 pub length_run : (n : ℕ) (m : List ℕ) → length (run n m) ≤ n
 length_run zero m = le_refl 0
@@ -63,12 +63,12 @@ run-all (suc n) [] h k = refl
 run-all (suc n) (zero ∷ r) h k = absurd (not-suc-le-zero h.0)
 run-all (suc n) (suc b ∷ r) h k = ap (λ (s : List ℕ). suc b ∷ s) (run-all n r h.1 (le_of_suc-le-suc k))
 
-pub run-zero : (n : ℕ) (r s : List ℕ) → NoZero r → length r ≤ n → run n (r ++ 0 ∷ s) ≡ r
-run-zero zero [] s h k = refl
-run-zero zero (b ∷ r) s h k = absurd (not-suc-le-zero k)
-run-zero (suc n) [] s h k = refl
-run-zero (suc n) (zero ∷ r) s h k = absurd (not-suc-le-zero h.0)
-run-zero (suc n) (suc b ∷ r) s h k = ap (λ (t : List ℕ). suc b ∷ t) (run-zero n r s h.1 (le_of_suc-le-suc k))
+pub run_zero : (n : ℕ) (r s : List ℕ) → NoZero r → length r ≤ n → run n (r ++ 0 ∷ s) ≡ r
+run_zero zero [] s h k = refl
+run_zero zero (b ∷ r) s h k = absurd (not-suc-le-zero k)
+run_zero (suc n) [] s h k = refl
+run_zero (suc n) (zero ∷ r) s h k = absurd (not-suc-le-zero h.0)
+run_zero (suc n) (suc b ∷ r) s h k = ap (λ (t : List ℕ). suc b ∷ t) (run_zero n r s h.1 (le_of_suc-le-suc k))
 
 pub run-full : (r s : List ℕ) → NoZero r → run (length r) (r ++ s) ≡ r
 run-full [] s h = refl

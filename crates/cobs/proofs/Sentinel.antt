@@ -19,8 +19,8 @@ digit zero (suc (suc y)) h k = absurd (omega arith)
 digit (suc zero) (suc (suc y)) h k = absurd (omega arith)
 digit (suc (suc x)) y h k = absurd (omega arith)
 
-pub xor-twice : (a s : ℕ) → bit_xor (bit_xor a s) s ≡ a
-xor-twice =
+pub xor_twice : (a s : ℕ) → bit_xor (bit_xor a s) s ≡ a
+xor_twice =
     bin_ind (λ (n : ℕ). (s : ℕ) → bit_xor (bit_xor n s) s ≡ n) xor_self
     (λ n ih s.
     xor_step (bit_xor n s) s
@@ -28,9 +28,9 @@ xor-twice =
     ∙ ap₂ (λ (x y : ℕ). x * 2 + y) (ih (s / 2)) (digit (n % 2) (s % 2) (mod-lt n (zero-lt-suc 1)) (mod-lt s (zero-lt-suc 1)))
     ∙ div-add-mod' n 2)
 
-pub masked-twice : (s : ℕ) (l : List ℕ) → masked s (masked s l) ≡ l
-masked-twice s [] = refl
-masked-twice s (b ∷ l) = ap₂ (λ (x : ℕ) (t : List ℕ). x ∷ t) (xor-twice b s) (masked-twice s l)
+pub masked_twice : (s : ℕ) (l : List ℕ) → masked s (masked s l) ≡ l
+masked_twice s [] = refl
+masked_twice s (b ∷ l) = ap₂ (λ (x : ℕ) (t : List ℕ). x ∷ t) (xor_twice b s) (masked_twice s l)
 
 pub length-masked : (s : ℕ) (l : List ℕ) → length (masked s l) ≡ length l
 length-masked s [] = refl
@@ -42,7 +42,7 @@ Without s [] = Unit {0}
 Without s (b ∷ l) = (b ≢ s) × Without s l
 
 -- a list without a zero, masked, is without the sentinel
-pub masked-without : (s : ℕ) (l : List ℕ) → NoZero l → Without s (masked s l)
-masked-without s [] h = tt
-masked-without s (b ∷ l) h =
-    ((λ e. let z : b ≡ 0 = sym (xor-twice b s) ∙ ap (λ (x : ℕ). bit_xor x s) e ∙ xor_self s in omega (arith, z, h.0)), masked-without s l h.1)
+pub masked_without : (s : ℕ) (l : List ℕ) → NoZero l → Without s (masked s l)
+masked_without s [] h = tt
+masked_without s (b ∷ l) h =
+    ((λ e. let z : b ≡ 0 = sym (xor_twice b s) ∙ ap (λ (x : ℕ). bit_xor x s) e ∙ xor_self s in omega (arith, z, h.0)), masked_without s l h.1)

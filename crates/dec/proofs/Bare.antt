@@ -10,7 +10,7 @@ use native.Mathlib.Omega.{arith}
 use lib.Dec.{eqb}
 use lib.ListN.{length, length-append}
 use Rattle.cobs.specs.Code.{NoZero, Reading, zero_after, read}
-use Rattle.cobs.proofs.Runs.{no-zero-front, no-zero-back}
+use Rattle.cobs.proofs.Runs.{no_zero_front, no_zero_back}
 use Rattle.cobs.proofs.Reading.{by_codes, read_short, read-last, read_more}
 use Rattle.dec.specs.Helpers.{group}
 use Rattle.dec.specs.State.{stepped}
@@ -132,12 +132,12 @@ claim-last t c r l h k =
 claim-more : (t : List ℕ) (c : ℕ) (r : List ℕ) → length r ≡ pred c → (d : ℕ) (s : List ℕ) → Claim t (d ∷ s) → Claim t (c ∷ (r ++ d ∷ s))
 unfolding zero_if
 claim-more t c r l d s ih h k =
-    let nz : NoZero (d ∷ s) = no-zero-back r (d ∷ s) h.1 in
+    let nz : NoZero (d ∷ s) = no_zero_back r (d ∷ s) h.1 in
     let n : length r + suc (length (d ∷ s)) ≡ suc (length (r ++ d ∷ s)) = omega (arith, length-append r (d ∷ s)) in
     open-run c (r ++ d ∷ s) t h.0
     ∙ ap (after [])
     (ap₂ (λ (j : ℕ) (u : List ℕ). run (group (eqb c 255) j) u) (sym l) (append_assoc r (d ∷ s) (0 ∷ t))
-    ∙ more-run (eqb c 255) r d (s ++ 0 ∷ t) (body_run (d ∷ s)) (no-zero-front r (d ∷ s) h.1) nz.0 (ih nz (suc-le-suc zero-le)))
+    ∙ more-run (eqb c 255) r d (s ++ 0 ∷ t) (body_run (d ∷ s)) (no_zero_front r (d ∷ s) h.1) nz.0 (ih nz (suc-le-suc zero-le)))
     ∙ rw (read_more c r l d s, n, append_assoc (r ++ zero_after c) (read (d ∷ s)).groups (read (d ∷ s)).short)
 
 -- from idle: what `read` says, taken up to the zero, and idle again

@@ -23,9 +23,9 @@ abbrev Taken : CobsDecoder → (b n : ℕ) (o : Outcome) (dest left : List ℕ) 
 Taken d b n o dest left = (o ≡ further (n - 1) (byte_outcome d (length dest) b)) × (left ≡ byte_dest d b dest)
 
 module _ (d : CobsDecoder) (b n : ℕ) (dest : List ℕ) where
-  pub taken-skip : d.skip ≡ true → (o : Outcome) → o ≡ goes (if eqb b 0 then new else d) → Taken d b n o dest dest
+  pub taken_skip : d.skip ≡ true → (o : Outcome) → o ≡ goes (if eqb b 0 then new else d) → Taken d b n o dest dest
   unfolding byte_outcome byte_dest further
-  taken-skip s o e = (simp (s, e), simp s)
+  taken_skip s o e = (simp (s, e), simp s)
 
   module _ (s : d.skip ≡ false) (t : Stepped) (e : t ≡ stepped d.state b) where
     by_result : (r : DecodeResult) → t.result ≡ r → (o : Outcome) (left : List ℕ)
@@ -61,6 +61,6 @@ module _ (d : CobsDecoder) (b n : ℕ) (dest : List ℕ) where
       unfolding further
       taken-frame q o p = by_result DataComplete q o dest (p ∙ ap (λ (j : ℕ). stops new (done d.place j)) count) refl
 
-      pub taken-invalid : t.result ≡ InvalidFrame → (o : Outcome) → o ≡ stops new (invalid_frame d.place n) → Taken d b n o dest dest
+      pub taken_invalid : t.result ≡ InvalidFrame → (o : Outcome) → o ≡ stops new (invalid_frame d.place n) → Taken d b n o dest dest
       unfolding further
-      taken-invalid q o p = by_result InvalidFrame q o dest (p ∙ ap (λ (j : ℕ). stops new (invalid_frame d.place j)) count) refl
+      taken_invalid q o p = by_result InvalidFrame q o dest (p ∙ ap (λ (j : ℕ). stops new (invalid_frame d.place j)) count) refl

@@ -19,7 +19,7 @@ use Rattle.dec.specs.declared.stream.Pushed.{Pushed}
 use Rattle.dec.specs.declared.decode.Decoded.{Decoded}
 use Rattle.dec.specs.declared.decode.Decoded.TheVariants.{Frame, EmptyFrame}
 use Rattle.dec.proofs.Good.{new-good}
-use Rattle.dec.proofs.Pieces.{joined-more, joined-stop, push-piece, push-cut, push_dest-cut}
+use Rattle.dec.proofs.Pieces.{joined-more, joined_stop, push_piece, push-cut, push_dest-cut}
 use Rattle.dec.proofs.Restart.{used-within}
 use Rattle.dec.proofs.Sources.{one_shot, decode-streams, decode_dest-streams}
 
@@ -27,17 +27,17 @@ use Rattle.dec.proofs.Sources.{one_shot, decode-streams, decode_dest-streams}
 abbrev Decodes : (src m : List ℕ) (r : Decoded) (m' : List ℕ) → Type 0
 Decodes src m r m' = (decoded_told r ≡ decode_told src (length m)) × (m' ≡ decode_dest src m)
 
-pub decode-empty : (src m : List ℕ) → length src ≡ 0 → Decodes src m EmptyFrame m
+pub decode_empty : (src m : List ℕ) → length src ≡ 0 → Decodes src m EmptyFrame m
 unfolding decode_told decode_dest decoded meant read read_in
-decode-empty [] m e = (refl, refl)
-decode-empty (b ∷ src) m e = absurd (omega arith)
+decode_empty [] m e = (refl, refl)
+decode_empty (b ∷ src) m e = absurd (omega arith)
 
-stopped-as : (n : ℕ) (a : PushAnswer) → (told a).second ≤ n → decoded_told (stopped a) ≡ one_shot n (told a)
-stopped-as n push.More h = refl
-stopped-as n (push.Frame size parsed) h = ap (done size) (omega arith)
-stopped-as n (push.InvalidFrame decoded consumed) h = refl
-stopped-as n (push.TargetBufTooSmall consumed) h = refl
-stopped-as n push.BadState h = refl
+stopped_as : (n : ℕ) (a : PushAnswer) → (told a).second ≤ n → decoded_told (stopped a) ≡ one_shot n (told a)
+stopped_as n push.More h = refl
+stopped_as n (push.Frame size parsed) h = ap (done size) (omega arith)
+stopped_as n (push.InvalidFrame decoded consumed) h = refl
+stopped_as n (push.TargetBufTooSmall consumed) h = refl
+stopped_as n push.BadState h = refl
 
 -- the zero was supplied: all n bytes of the source are parsed
 closed-frame : (n : ℕ) (d : CobsDecoder) (size parsed : ℕ)
@@ -77,10 +77,10 @@ module _ (src m : List ℕ) (some : length src ≡ 0 → ⊥) (d : CobsDecoder) 
   pub decode-stopped : is_more (outcome p) ≡ false → (r : Decoded) → r ≡ stopped p.answer → Decodes src m r m₁
   decode-stopped f r e =
       let within : used (length src) (outcome p) ≤ length src =
-      subst (λ (o : Outcome). used (length src) o ≤ length src) (sym (push-piece new (length m) (new-good (length m)) src) ∙ first) (used-within src new (length m)) in (
+      subst (λ (o : Outcome). used (length src) o ≤ length src) (sym (push_piece new (length m) (new-good (length m)) src) ∙ first) (used-within src new (length m)) in (
         ap decoded_told e
-            ∙ stopped-as (length src) p.answer (rw f at within)
-            ∙ sym (whole-answer ∙ ap (λ (o : Outcome). one_shot (length src) o.answer) (joined-stop (length src) (outcome p) (push_outcome p.next (length m) (0 ∷ [])) f)),
+            ∙ stopped_as (length src) p.answer (rw f at within)
+            ∙ sym (whole-answer ∙ ap (λ (o : Outcome). one_shot (length src) o.answer) (joined_stop (length src) (outcome p) (push_outcome p.next (length m) (0 ∷ [])) f)),
         sym (whole-memory ∙ rw f),
       )
 

@@ -13,7 +13,7 @@ use lib.Seq.{set_out}
 use borrow.Author.Tests.{lt-ltb, ltb-true, ltb-false}
 use Rattle.cobs.specs.Code.{NoZero, encode, read, over}
 use Rattle.cobs.specs.Answers.{done, invalid_frame, target_buf_too_small}
-use Rattle.cobs.proofs.Encoding.{encode-no-zero, encode-nonempty}
+use Rattle.cobs.proofs.Encoding.{encode_no_zero, encode_nonempty}
 use Rattle.cobs.proofs.Reading.{read-encode}
 use Rattle.dec.specs.State.{stepped}
 use Rattle.dec.specs.Stream.{at, new, skipping, Outcome, goes, stops, is_more, result_outcome, byte_outcome, result_dest, byte_dest, further, joined, piece_outcome, piece_dest, push_outcome, push_dest}
@@ -23,7 +23,7 @@ use Rattle.dec.specs.declared.state.DecodeResult.{DecodeResult}
 use Rattle.dec.specs.declared.state.DecodeResult.TheVariants.{NoData, DataStart, DataComplete, DataContinue, InvalidFrame}
 use Rattle.dec.proofs.Cases.{by_bool}
 use Rattle.dec.proofs.Good.{new-good}
-use Rattle.dec.proofs.Pieces.{push-piece, push_dest-piece}
+use Rattle.dec.proofs.Pieces.{push_piece, push_dest_piece}
 use Rattle.dec.proofs.Bare.{End, going, whole, early, Run, after, onward, run, bytes, body_run, run-body}
 
 -- ---- where the bytes of a run have room
@@ -68,10 +68,10 @@ fits-step room p (DataContinue b) s u ih h =
     let l : ltb p room ≡ true = lt-ltb p room (omega arith) in
     rw (l, ih (suc p) (omega arith)) (loud (run s u).end p b (run s u))
 
-pub piece-fits : (u : List ℕ) (s : DecoderState) (room p : ℕ) → p + length (run s u).out ≤ room → piece_outcome (at p s) room u ≡ ran p (run s u)
+pub piece_fits : (u : List ℕ) (s : DecoderState) (room p : ℕ) → p + length (run s u).out ≤ room → piece_outcome (at p s) room u ≡ ran p (run s u)
 unfolding piece_outcome byte_outcome run
-piece-fits [] s room p h = rw (add-zero p)
-piece-fits (b ∷ u) s room p h = fits-step room p (stepped s b).result (stepped s b).state u (piece-fits u (stepped s b).state room) h
+piece_fits [] s room p h = rw (add-zero p)
+piece_fits (b ∷ u) s room p h = fits-step room p (stepped s b).result (stepped s b).state u (piece_fits u (stepped s b).state room) h
 
 -- ---- where they have not
 
@@ -95,10 +95,10 @@ small-step room p (DataContinue b) s u ih l h =
     (λ q. rw q (small-on (piece_outcome (at (suc p) s) room u) (ih (suc p) (ltb-true p room q) (omega arith))))
     (λ q. rw q (1, refl))
 
-pub piece-small : (u : List ℕ) (s : DecoderState) (room p : ℕ) → p ≤ room → room < p + length (run s u).out → Small (piece_outcome (at p s) room u)
+pub piece_small : (u : List ℕ) (s : DecoderState) (room p : ℕ) → p ≤ room → room < p + length (run s u).out → Small (piece_outcome (at p s) room u)
 unfolding piece_outcome byte_outcome run
-piece-small [] s room p l h = absurd (omega arith)
-piece-small (b ∷ u) s room p l h = small-step room p (stepped s b).result (stepped s b).state u (piece-small u (stepped s b).state room) l h
+piece_small [] s room p l h = absurd (omega arith)
+piece_small (b ∷ u) s room p l h = small-step room p (stepped s b).result (stepped s b).state u (piece_small u (stepped s b).state room) l h
 
 -- ---- the destination
 
@@ -150,15 +150,15 @@ piece-dest (b ∷ u) s room p d l = dest-step room p (stepped s b).result (stepp
 
 module _ (u : List ℕ) (r : Run) (e : run Idle u ≡ r) where
   pub new-fits : (room : ℕ) → length r.out ≤ room → push_outcome new room u ≡ ran 0 r
-  new-fits room h = push-piece new room (new-good room) u ∙ piece-fits u Idle room 0 (rw e (omega arith)) ∙ ap (ran 0) e
+  new-fits room h = push_piece new room (new-good room) u ∙ piece_fits u Idle room 0 (rw e (omega arith)) ∙ ap (ran 0) e
 
   pub new-small : (room : ℕ) → room < length r.out → (k : ℕ) × (push_outcome new room u ≡ stops skipping (target_buf_too_small k))
   new-small room h =
-      let w = piece-small u Idle room 0 zero-le (rw e (omega arith)) in
-      (w.0, push-piece new room (new-good room) u ∙ w.1)
+      let w = piece_small u Idle room 0 zero-le (rw e (omega arith)) in
+      (w.0, push_piece new room (new-good room) u ∙ w.1)
 
   pub new-dest : (d : List ℕ) → push_dest new u d ≡ over r.out d
-  new-dest d = push_dest-piece new u d (new-good (length d)) ∙ piece-dest u Idle (length d) 0 d refl ∙ ap (λ (x : Run). over x.out d) e
+  new-dest d = push_dest_piece new u d (new-good (length d)) ∙ piece-dest u Idle (length d) 0 d refl ∙ ap (λ (x : Run). over x.out d) e
 
 -- ---- a body and its zero: what `read` says, used up to the zero, and new again
 
@@ -182,8 +182,8 @@ module _ (b t : List ℕ) (h : NoZero b) (k : 0 < length b) where
 
 pub push-encode : (m t : List ℕ) (room : ℕ) → length m ≤ room → push_outcome new room (encode m ++ 0 ∷ t) ≡ stops new (done (length m) (length (encode m) + 1))
 push-encode m t room l =
-    push-body (encode m) t (encode-no-zero m) (encode-nonempty m) room (rw (read-encode m, append-nil m) l)
+    push-body (encode m) t (encode_no_zero m) (encode_nonempty m) room (rw (read-encode m, append-nil m) l)
     ∙ rw (read-encode m, append-nil m) (ap (λ (n : ℕ). stops new (done (length m) n)) (omega arith))
 
 pub push_dest-encode : (m t d : List ℕ) → push_dest new (encode m ++ 0 ∷ t) d ≡ over m d
-push_dest-encode m t d = push_dest-body (encode m) t (encode-no-zero m) (encode-nonempty m) d ∙ rw (read-encode m, append-nil m)
+push_dest-encode m t d = push_dest-body (encode m) t (encode_no_zero m) (encode_nonempty m) d ∙ rw (read-encode m, append-nil m)

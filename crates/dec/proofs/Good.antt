@@ -22,16 +22,16 @@ use Rattle.dec.proofs.Cases.{by_bool}
 abbrev Test : (beyond placed idle skips : Bool) → Bool
 Test x p i s = x || (p && (i || s)) || (s && not i)
 
-test-idle : (p s : Bool) → p ≡ Test false p true s
-test-idle true s = refl
-test-idle false true = refl
-test-idle false false = refl
+test_idle : (p s : Bool) → p ≡ Test false p true s
+test_idle true s = refl
+test_idle false true = refl
+test_idle false false = refl
 
-test-open : (p s : Bool) → s ≡ Test false p false s
-test-open true true = refl
-test-open true false = refl
-test-open false true = refl
-test-open false false = refl
+test_open : (p s : Bool) → s ≡ Test false p false s
+test_open true true = refl
+test_open true false = refl
+test_open false true = refl
+test_open false false = refl
 
 module _ (d : CobsDecoder) (room : ℕ) where
   pub bad-beyond : room < d.place → true ≡ bad d room
@@ -41,11 +41,11 @@ module _ (d : CobsDecoder) (room : ℕ) where
   module _ (h : d.place ≤ room) (i : Bool) (e : i ≡ is_idle d.state) where
     pub bad-idle : i ≡ true → ltb 0 d.place ≡ bad d room
     unfolding bad
-    bad-idle q = rw (le-ltb room d.place h, ← e, q) (test-idle (ltb 0 d.place) d.skip)
+    bad-idle q = rw (le-ltb room d.place h, ← e, q) (test_idle (ltb 0 d.place) d.skip)
 
     pub bad-open : i ≡ false → d.skip ≡ bad d room
     unfolding bad
-    bad-open q = rw (le-ltb room d.place h, ← e, q) (test-open (ltb 0 d.place) d.skip)
+    bad-open q = rw (le-ltb room d.place h, ← e, q) (test_open (ltb 0 d.place) d.skip)
 
 -- ---- a good state
 
@@ -63,15 +63,15 @@ test_good false false true s e = (refl, (λ h. refl), λ h. refl)
 test_good false false false true e = absurd (false≢true (sym e))
 test_good false false false false e = (refl, (λ h. refl), λ h. h)
 
-good-test : (x p i s : Bool) → x ≡ false → (i ≡ true → p ≡ false) → (s ≡ true → i ≡ true) → Test x p i s ≡ false
-good-test true p i s a b c = a
-good-test false true true s a b c = b refl
-good-test false true false true a b c = sym (c refl)
-good-test false true false false a b c = refl
-good-test false false true true a b c = refl
-good-test false false true false a b c = refl
-good-test false false false true a b c = sym (c refl)
-good-test false false false false a b c = refl
+good_test : (x p i s : Bool) → x ≡ false → (i ≡ true → p ≡ false) → (s ≡ true → i ≡ true) → Test x p i s ≡ false
+good_test true p i s a b c = a
+good_test false true true s a b c = b refl
+good_test false true false true a b c = sym (c refl)
+good_test false true false false a b c = refl
+good_test false false true true a b c = refl
+good_test false false true false a b c = refl
+good_test false false false true a b c = sym (c refl)
+good_test false false false false a b c = refl
 
 module _ (d : CobsDecoder) (room : ℕ) where
   pub good_of : bad d room ≡ false → Good d room
@@ -80,23 +80,23 @@ module _ (d : CobsDecoder) (room : ℕ) where
       let t = test_good (ltb room d.place) (ltb 0 d.place) (is_idle d.state) d.skip e in
       record { within = ltb-false room d.place t.0; start = λ h. omega (arith, ltb-false 0 d.place (t.1 h)); rest = t.2 }
 
-  pub of-good : Good d room → bad d room ≡ false
+  pub of_good : Good d room → bad d room ≡ false
   unfolding bad
-  of-good g =
-      good-test (ltb room d.place) (ltb 0 d.place) (is_idle d.state) d.skip (le-ltb room d.place g.within)
+  of_good g =
+      good_test (ltb room d.place) (ltb 0 d.place) (is_idle d.state) d.skip (le-ltb room d.place g.within)
       (λ h. le-ltb 0 d.place (omega (arith, g.start h))) g.rest
 
 good_new : (room : ℕ) → Good new room
 good_new room = record { within = zero-le; start = λ h. refl; rest = λ h. absurd (false≢true h) }
 
 pub new-good : (room : ℕ) → bad new room ≡ false
-new-good room = of-good new room (good_new room)
+new-good room = of_good new room (good_new room)
 
 good-skipping : (room : ℕ) → Good skipping room
 good-skipping room = record { within = zero-le; start = λ h. refl; rest = λ h. refl }
 
 pub skipping-good : (room : ℕ) → bad skipping room ≡ false
-skipping-good room = of-good skipping room (good-skipping room)
+skipping-good room = of_good skipping room (good-skipping room)
 
 -- ---- a byte
 
@@ -154,14 +154,14 @@ unfolding joined further
 good-joined o r n room g h =
     by_bool (is_more o) (λ e. by_bool (is_more r) (λ f. rw (e, f) h) (λ f. rw (e, f) h)) (λ e. rw e g)
 
-pub good-piece : (p : List ℕ) (d : CobsDecoder) (room : ℕ) → Good d room → Good (piece_outcome d room p).next room
+pub good_piece : (p : List ℕ) (d : CobsDecoder) (room : ℕ) → Good d room → Good (piece_outcome d room p).next room
 unfolding piece_outcome
-good-piece [] d room g = g
-good-piece (b ∷ p) d room g =
+good_piece [] d room g = g
+good_piece (b ∷ p) d room g =
     let h : Good (byte_outcome d room b).next room = good-byte d room b g in
-    good-joined (byte_outcome d room b) (piece_outcome (byte_outcome d room b).next room p) 1 room h (good-piece p (byte_outcome d room b).next room h)
+    good-joined (byte_outcome d room b) (piece_outcome (byte_outcome d room b).next room p) 1 room h (good_piece p (byte_outcome d room b).next room h)
 
 -- no call leads from a good state to a BadState
 pub push-good : (d : CobsDecoder) (room : ℕ) (p : List ℕ) → bad d room ≡ false → bad (push_outcome d room p).next room ≡ false
 unfolding push_outcome
-push-good d room p e = rw e (of-good (piece_outcome d room p).next room (good-piece p d room (good_of d room e)))
+push-good d room p e = rw e (of_good (piece_outcome d room p).next room (good_piece p d room (good_of d room e)))

@@ -20,24 +20,24 @@ use Rattle.dec.proofs.Turns.{ahead_none, ahead-on, ahead-further, ahead-byte}
 -- ---- one byte
 
 -- of the group
-data-outcome : (full : Bool) (left place room b : ℕ) → 0 < left → (b ≡ 0 → ⊥) → place < room
+data_outcome : (full : Bool) (left place room b : ℕ) → 0 < left → (b ≡ 0 → ⊥) → place < room
     → byte_outcome (at place (group full left)) room b ≡ goes (at (place + 1) (group full (left - 1)))
 unfolding byte_outcome
-data-outcome full zero place room b h nz lt = absurd (omega arith)
-data-outcome full (suc left) place room zero h nz lt = absurd (nz refl)
-data-outcome true (suc left) place room (suc b) h nz lt =
+data_outcome full zero place room b h nz lt = absurd (omega arith)
+data_outcome full (suc left) place room zero h nz lt = absurd (nz refl)
+data_outcome true (suc left) place room (suc b) h nz lt =
     let e : suc left - 1 ≡ left = omega arith in
     rw (lt-ltb place room lt, add-one place, e)
-data-outcome false (suc left) place room (suc b) h nz lt =
+data_outcome false (suc left) place room (suc b) h nz lt =
     let e : suc left - 1 ≡ left = omega arith in
     rw (lt-ltb place room lt, add-one place, e)
 
-data-dest : (full : Bool) (left place b : ℕ) (m : List ℕ) → 0 < left → (b ≡ 0 → ⊥) → set m place b ≡ byte_dest (at place (group full left)) b m
+data_dest : (full : Bool) (left place b : ℕ) (m : List ℕ) → 0 < left → (b ≡ 0 → ⊥) → set m place b ≡ byte_dest (at place (group full left)) b m
 unfolding byte_dest
-data-dest full zero place b m h nz = absurd (omega arith)
-data-dest full (suc left) place zero m h nz = absurd (nz refl)
-data-dest true (suc left) place (suc b) m h nz = refl
-data-dest false (suc left) place (suc b) m h nz = refl
+data_dest full zero place b m h nz = absurd (omega arith)
+data_dest full (suc left) place zero m h nz = absurd (nz refl)
+data_dest true (suc left) place (suc b) m h nz = refl
+data_dest false (suc left) place (suc b) m h nz = refl
 
 -- a code after a group that is not full
 code-outcome : (place room b : ℕ) → (b ≡ 0 → ⊥) → place < room → byte_outcome (at place (Grab 0)) room b ≡ goes (inside b (b - 1) (place + 1))
@@ -53,10 +53,10 @@ code-dest place zero m nz = absurd (nz refl)
 code-dest place (suc b) m nz = refl
 
 module _ (room : ℕ) (p : List ℕ) (i : ℕ) (h : i < length p) (nz : get_or p i 0 ≡ 0 → ⊥) (c place : ℕ) (m : List ℕ) (l : place < room) where
-  pub step-data : (left : ℕ) → 0 < left → Ahead room p i (inside c left place) m (i + 1) (inside c (left - 1) (place + 1)) (set m place (get_or p i 0))
-  step-data left k =
+  pub step_data : (left : ℕ) → 0 < left → Ahead room p i (inside c left place) m (i + 1) (inside c (left - 1) (place + 1)) (set m place (get_or p i 0))
+  step_data left k =
       ahead-byte room p i (inside c left place) m h (get_or p i 0) refl (inside c (left - 1) (place + 1))
-      (data-outcome (eqb c 255) left place room (get_or p i 0) k nz l) (set m place (get_or p i 0)) (data-dest (eqb c 255) left place (get_or p i 0) m k nz)
+      (data_outcome (eqb c 255) left place room (get_or p i 0) k nz l) (set m place (get_or p i 0)) (data_dest (eqb c 255) left place (get_or p i 0) m k nz)
 
   pub step-code : (c ≡ 255 → ⊥) → Ahead room p i (inside c 0 place) m (i + 1) (inside (get_or p i 0) (get_or p i 0 - 1) (place + 1)) (set m place 0)
   step-code nc =
@@ -76,15 +76,15 @@ same_ahead c {room} {p} {i} {d} {m} {i'} {left} {place} {m'} a j left' place' m'
     (subst (λ (x : ℕ). Ahead room p i d m i' (inside c left x) m'') q₃
     (subst (λ (x : List ℕ). Ahead room p i d m i' (inside c left place) x) q₄ a)))
 
-pub steps-data : (t : ℕ) (p : List ℕ) (i c left place : ℕ) (m : List ℕ) → t ≤ left → i + t ≤ length p → place + t ≤ length m → Clear p i t
+pub steps_data : (t : ℕ) (p : List ℕ) (i c left place : ℕ) (m : List ℕ) → t ≤ left → i + t ≤ length p → place + t ≤ length m → Clear p i t
     → Ahead (length m) p i (inside c left place) m (i + t) (inside c (left - t) (place + t)) (paste m place (drop i p) t)
-steps-data zero p i c left place m h hi hp nz =
+steps_data zero p i c left place m h hi hp nz =
     same_ahead c (ahead_none (length m) p i (inside c left place) m) (i + 0) (left - 0) (place + 0) (paste m place (drop i p) 0)
     (omega arith) (omega arith) (omega arith) (paste-zero m place (drop i p))
-steps-data (suc t) p i c left place m h hi hp nz =
-    let ih = steps-data t p i c left place m (omega arith) (omega arith) (omega arith) (λ k l. nz k (omega arith)) in
+steps_data (suc t) p i c left place m h hi hp nz =
+    let ih = steps_data t p i c left place m (omega arith) (omega arith) (omega arith) (λ k l. nz k (omega arith)) in
     let m₁ : List ℕ = paste m place (drop i p) t in
-    let s = step-data (length m) p (i + t) (omega arith) (nz t (omega arith)) c (place + t) m₁ (omega arith) (left - t) (omega arith) in
+    let s = step_data (length m) p (i + t) (omega arith) (nz t (omega arith)) c (place + t) m₁ (omega arith) (left - t) (omega arith) in
     let e : set m₁ (place + t) (get_or p (i + t) 0) ≡ paste m place (drop i p) (suc t) =
     ap (λ (v : ℕ). set m₁ (place + t) v) (sym (get_or-drop i p t 0)) ∙ paste-suc m place (drop i p) t 0 (omega arith) (omega (arith, length-drop i p)) in
     same_ahead c (ahead-on ih s) (i + suc t) (left - suc t) (place + suc t) (paste m place (drop i p) (suc t)) (omega arith) (omega arith) (omega arith) e
@@ -95,18 +95,18 @@ pub passed_none : (p : List ℕ) (from to : ℕ) (d : List ℕ) (most : ℕ) →
 passed_none p from to d most c left h =
     same_ahead c (ahead_none (length d) p from (inside c left to) d) (from + 0) (left - 0) (to + 0) d (omega arith) (omega arith) (omega arith) refl
 
-pub passed-more : (p : List ℕ) (from to : ℕ) (d : List ℕ) (most k : ℕ) (d' : List ℕ) → Passed p from to d most k d' → k < most
+pub passed_more : (p : List ℕ) (from to : ℕ) (d : List ℕ) (most k : ℕ) (d' : List ℕ) → Passed p from to d most k d' → k < most
     → from + k < length p → to + k < length d → (b : ℕ) → b ≡ get_or p (from + k) 0 → (b ≡ 0 → ⊥) → Passed p from to d most (k + 1) (set d' (to + k) b)
-passed-more p from to d most k d' w h hp hd b eb nz c left le =
-    let s = step-data (length d) p (from + k) hp (λ e. nz (eb ∙ e)) c (to + k) d' hd (left - k) (omega arith) in
+passed_more p from to d most k d' w h hp hd b eb nz c left le =
+    let s = step_data (length d) p (from + k) hp (λ e. nz (eb ∙ e)) c (to + k) d' hd (left - k) (omega arith) in
     same_ahead c (ahead-on (w c left le) s) (from + (k + 1)) (left - (k + 1)) (to + (k + 1)) (set d' (to + k) b)
     (omega arith) (omega arith) (omega arith) (ap (set d' (to + k)) (sym eb))
 
 -- ---- from a state to its numbers and back
 
-pub to-numbers : (p : List ℕ) (f : ℕ) (d₀ : CobsDecoder) (m₀ : List ℕ) (i : ℕ) (d : CobsDecoder) (m : List ℕ) (i' : ℕ) (d' : CobsDecoder) (m' : List ℕ)
+pub to_numbers : (p : List ℕ) (f : ℕ) (d₀ : CobsDecoder) (m₀ : List ℕ) (i : ℕ) (d : CobsDecoder) (m : List ℕ) (i' : ℕ) (d' : CobsDecoder) (m' : List ℕ)
     → Ahead (length m₀) p f d₀ m₀ i d m → Ahead (length m) p i d m i' d' m' → (j : ℕ) → j ≡ i' → (e : CobsDecoder) → e ≡ d' → Ahead (length m₀) p f d₀ m₀ j e m'
-to-numbers p f d₀ m₀ i d m i' d' m' a b j ej e ee =
+to_numbers p f d₀ m₀ i d m i' d' m' a b j ej e ee =
     subst (λ (x : ℕ). Ahead (length m₀) p f d₀ m₀ x e m') (sym ej)
     (subst (λ (x : CobsDecoder). Ahead (length m₀) p f d₀ m₀ i' x m') (sym ee) (ahead-further a b))
 

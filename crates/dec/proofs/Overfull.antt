@@ -17,8 +17,8 @@ use Rattle.dec.specs.declared.state.DecoderState.TheVariants.{Idle, Grab, GrabCh
 use Rattle.dec.specs.declared.state.DecodeResult.{DecodeResult}
 use Rattle.dec.specs.declared.state.DecodeResult.TheVariants.{NoData, DataStart, DataComplete, DataContinue, InvalidFrame}
 use Rattle.dec.proofs.Good.{new-good}
-use Rattle.dec.proofs.Pieces.{push-piece}
-use Rattle.dec.proofs.Counts.{piece-enough, piece-fewer}
+use Rattle.dec.proofs.Pieces.{push_piece}
+use Rattle.dec.proofs.Counts.{piece_enough, piece_fewer}
 use Rattle.dec.proofs.Bare.{End, going, whole, early, Run, onward, run}
 use Rattle.dec.proofs.Frames.{ran, new-fits, new-small}
 use Rattle.dec.proofs.Sources.{run_none, run-some, decoded-none, some-body}
@@ -33,19 +33,19 @@ onward-out DataComplete x y e = refl
 onward-out InvalidFrame x y e = refl
 
 -- a zero at the end gives nothing
-out-zero : (src : List ℕ) (s : DecoderState) → (run s (src ++ 0 ∷ [])).out ≡ (run s src).out
+out_zero : (src : List ℕ) (s : DecoderState) → (run s (src ++ 0 ∷ [])).out ≡ (run s src).out
 unfolding run
-out-zero [] Idle = refl
-out-zero [] (Grab zero) = refl
-out-zero [] (Grab (suc left)) = refl
-out-zero [] (GrabChain zero) = refl
-out-zero [] (GrabChain (suc left)) = refl
-out-zero (b ∷ src) s =
-    onward-out (stepped s b).result (run (stepped s b).state (src ++ 0 ∷ [])) (run (stepped s b).state src) (out-zero src (stepped s b).state)
+out_zero [] Idle = refl
+out_zero [] (Grab zero) = refl
+out_zero [] (Grab (suc left)) = refl
+out_zero [] (GrabChain zero) = refl
+out_zero [] (GrabChain (suc left)) = refl
+out_zero (b ∷ src) s =
+    onward-out (stepped s b).result (run (stepped s b).state (src ++ 0 ∷ [])) (run (stepped s b).state src) (out_zero src (stepped s b).state)
 
 run-decoded : (src : List ℕ) → (run Idle src).out ≡ decoded src
 run-decoded src =
-    sym (out-zero src Idle)
+    sym (out_zero src Idle)
     ∙ ⊎_elim (λ e. ap (λ (r : Run). r.out) (run_none src e) ∙ sym (decoded-none src e)) (λ k. ap (λ (r : Run). r.out) (run-some src k)) (some-body src)
 
 -- ---- the answer
@@ -70,12 +70,12 @@ pub push-overfull : (room : ℕ) (p : List ℕ) → room < length (decoded p)
     → (n : ℕ) × Overfull room p n × (push_outcome new room p ≡ stops skipping (target_buf_too_small n))
 push-overfull room p h =
     let w = overfull-stops room p h in
-    let new-piece : (s : List ℕ) → push_outcome new room s ≡ piece_outcome new room s = push-piece new room (new-good room) in
+    let new-piece : (s : List ℕ) → push_outcome new room s ≡ piece_outcome new room s = push_piece new room (new-good room) in
     let is : piece_outcome new room p ≡ stops skipping (target_buf_too_small w.0) = sym (new-piece p) ∙ w.1 in
     let stopped : is_more (piece_outcome new room p) ≡ false = ap is_more is in
     let count : (piece_outcome new room p).answer.second ≡ w.0 = ap (λ (o : Outcome). o.answer.second) is in
     let enough : piece_outcome new room (take w.0 p) ≡ piece_outcome new room p =
-    ap (λ (n : ℕ). piece_outcome new room (take n p)) (sym count) ∙ piece-enough p new room stopped in (
+    ap (λ (n : ℕ). piece_outcome new room (take n p)) (sym count) ∙ piece_enough p new room stopped in (
       w.0,
       record {
         over =
@@ -88,7 +88,7 @@ push-overfull room p h =
               | yes f ↦ f
               | no f ↦
                   let v = overfull-stops room (take k p) (omega arith) in
-                  absurd (false≢true (sym (ap is_more (sym (new-piece (take k p)) ∙ v.1)) ∙ piece-fewer p new room stopped k (rw count l)))
+                  absurd (false≢true (sym (ap is_more (sym (new-piece (take k p)) ∙ v.1)) ∙ piece_fewer p new room stopped k (rw count l)))
             ];
       },
       w.1,

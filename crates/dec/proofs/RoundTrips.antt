@@ -14,15 +14,15 @@ use Rattle.dec.specs.Sentences.{Sentences}
 use Rattle.dec.specs.RoundTrips.{Gives, StreamTrips, Ends}
 use Rattle.dec.proofs.Cases.{by_bool}
 use Rattle.dec.proofs.Good.{new-good}
-use Rattle.dec.proofs.Pieces.{further-counts, piece-goes, piece-more, push-piece}
+use Rattle.dec.proofs.Pieces.{further-counts, piece_goes, piece_more, push_piece}
 use Rattle.dec.proofs.Frames.{push-encode}
 use Rattle.dec.proofs.Sources.{push-memory}
 use Rattle.dec.proofs.Sentences.{sentences}
 
 -- a zero before a frame is one more byte
-zero-first : (room : ℕ) (s : List ℕ) → push_outcome new room (0 ∷ s) ≡ further 1 (push_outcome new room s)
+zero_first : (room : ℕ) (s : List ℕ) → push_outcome new room (0 ∷ s) ≡ further 1 (push_outcome new room s)
 unfolding byte_outcome
-zero-first room s = push-piece new room (new-good room) (0 ∷ s) ∙ piece-goes new room 0 s new refl ∙ ap (further 1) (sym (push-piece new room (new-good room) s))
+zero_first room s = push_piece new room (new-good room) (0 ∷ s) ∙ piece_goes new room 0 s new refl ∙ ap (further 1) (sym (push_piece new room (new-good room) s))
 
 module _ (s m : List ℕ) (h : length s ≤ length m) where
   -- The encoding and its zero.
@@ -39,12 +39,12 @@ module _ (s m : List ℕ) (h : length s ≤ length m) where
       absurd (omega (arith, n, (all.consumed (encode s) e).within)))
 
   by_bytes : push_outcome new (length m) (encode s) ≡ piece_outcome new (length m) (encode s)
-  by_bytes = push-piece new (length m) (new-good (length m)) (encode s)
+  by_bytes = push_piece new (length m) (new-good (length m)) (encode s)
 
   begun : Gives (encode s) m more s
   begun =
       record {
-        told = ap (λ (o : Outcome). o.answer) (by_bytes ∙ piece-more (encode s) new (length m) (rw by_bytes at waits));
+        told = ap (λ (o : Outcome). o.answer) (by_bytes ∙ piece_more (encode s) new (length m) (rw by_bytes at waits));
         memory = push-memory (encode s) m ∙ rw append-nil at (decode_dest-encode s [] refl 0 m);
       }
 
@@ -57,14 +57,14 @@ module _ (s m : List ℕ) (h : length s ≤ length m) where
 
   around : push_outcome new (length m) (0 ∷ (encode s ++ 0 ∷ [])) ≡ stops new (done (length s) (length (0 ∷ (encode s ++ 0 ∷ []))))
   around =
-      zero-first (length m) (encode s ++ 0 ∷ [])
+      zero_first (length m) (encode s ++ 0 ∷ [])
       ∙ ap (further 1) (framed [])
       ∙ further-counts 1 (stops new (done (length s) (length (encode s) + 1))) refl
       ∙ ap (λ (n : ℕ). stops new (done (length s) n)) (omega (arith, length-append (encode s) (0 ∷ [])))
 
-  pub stream-trips : StreamTrips s m
+  pub stream_trips : StreamTrips s m
   unfolding finished
-  stream-trips =
+  stream_trips =
       record {
         begun = begun;
         closed = closed;
@@ -80,7 +80,7 @@ pub ends : Ends
 unfolding finished encode encode_in
 ends =
     record {
-      nothing = (stream-trips [] [] zero-le).closed [];
-      full = (stream-trips (replicate 254 1) (replicate 254 0) (omega arith)).closed [];
-      full_around = (stream-trips (replicate 254 1) (replicate 254 0) (omega arith)).around;
+      nothing = (stream_trips [] [] zero-le).closed [];
+      full = (stream_trips (replicate 254 1) (replicate 254 0) (omega arith)).closed [];
+      full_around = (stream_trips (replicate 254 1) (replicate 254 0) (omega arith)).around;
     }

@@ -12,27 +12,27 @@ use Rattle.dec.specs.Stream.{bad, Outcome, is_more, byte_outcome, further, joine
 use Rattle.dec.specs.Sentences.{Consumed, Drops, Sentences, Overfull, FromNew, full, Ends}
 use Rattle.dec.specs.declared.stream.CobsDecoder.{CobsDecoder}
 use Rattle.dec.proofs.Good.{push-good}
-use Rattle.dec.proofs.Pieces.{length-piece, joined-stop, push-piece, push_dest-piece, push-cut, push_dest-cut}
-use Rattle.dec.proofs.Restart.{through, through-zero, pushes-through, pushes_all}
-use Rattle.dec.proofs.Counts.{piece-rests, piece-some, piece-within, piece-enough, piece-fewer}
-use Rattle.dec.proofs.Dropped.{skipping-drops, early-zero}
+use Rattle.dec.proofs.Pieces.{length_piece, joined_stop, push_piece, push_dest_piece, push-cut, push_dest-cut}
+use Rattle.dec.proofs.Restart.{through, through_zero, pushes_through, pushes_all}
+use Rattle.dec.proofs.Counts.{piece_rests, piece_some, piece_within, piece_enough, piece_fewer}
+use Rattle.dec.proofs.Dropped.{skipping_drops, early_zero}
 use Rattle.dec.proofs.Sources.{push-memory}
 use Rattle.dec.proofs.Overfull.{push-overfull, overfull-never}
 
 module _ (d : CobsDecoder) (room : ℕ) (g : bad d room ≡ false) where
   -- A push is the piece, byte by byte.
   by_bytes : (p : List ℕ) → push_outcome d room p ≡ piece_outcome d room p
-  by_bytes = push-piece d room g
+  by_bytes = push_piece d room g
 
   abbrev Stops : List ℕ → Type 0
   Stops p = is_more (push_outcome d room p) ≡ false
 
-  stops-piece : (p : List ℕ) → Stops p → is_more (piece_outcome d room p) ≡ false
-  stops-piece p f = ap is_more (sym (by_bytes p)) ∙ f
+  stops_piece : (p : List ℕ) → Stops p → is_more (piece_outcome d room p) ≡ false
+  stops_piece p f = ap is_more (sym (by_bytes p)) ∙ f
 
   stopping : (p q : List ℕ) → Stops p → push_outcome d room (p ++ q) ≡ push_outcome d room p
   stopping p q f =
-      push-cut d p q room g ∙ joined-stop (length p) (push_outcome d room p) (push_outcome (push_outcome d room p).next room q) f
+      push-cut d p q room g ∙ joined_stop (length p) (push_outcome d room p) (push_outcome (push_outcome d room p).next room q) f
 
   stopping-dest : (p q m : List ℕ) → length m ≡ room → Stops p → push_dest d (p ++ q) m ≡ push_dest d p m
   stopping-dest p q m l f =
@@ -41,20 +41,20 @@ module _ (d : CobsDecoder) (room : ℕ) (g : bad d room ≡ false) where
 
   consumed : (p : List ℕ) → Stops p → Consumed d room p (push_outcome d room p).answer.second
   consumed p f =
-      let s : is_more (piece_outcome d room p) ≡ false = stops-piece p f in
+      let s : is_more (piece_outcome d room p) ≡ false = stops_piece p f in
       rw (by_bytes p)
       (record {
-        some = piece-some p d room s;
-        within = piece-within p d room s;
-        fewer = λ k h. rw (by_bytes (take k p)) (piece-fewer p d room s k h);
-        enough = by_bytes (take (piece_outcome d room p).answer.second p) ∙ piece-enough p d room s ∙ sym (by_bytes p);
+        some = piece_some p d room s;
+        within = piece_within p d room s;
+        fewer = λ k h. rw (by_bytes (take k p)) (piece_fewer p d room s k h);
+        enough = by_bytes (take (piece_outcome d room p).answer.second p) ∙ piece_enough p d room s ∙ sym (by_bytes p);
       })
 
   -- an answer that asks for more is not TargetBufTooSmall
   overfull : (p : List ℕ) → (push_outcome d room p).answer.number ≡ 3 → Drops (push_outcome d room p).next room
   overfull p e =
       let n : (piece_outcome d room p).answer.number ≡ 3 = ap (λ (o : Outcome). o.answer.number) (sym (by_bytes p)) ∙ e in
-      rw (by_bytes p, (piece-rests p d room (rw n)).small n) (skipping-drops room)
+      rw (by_bytes p, (piece_rests p d room (rw n)).small n) (skipping_drops room)
 
   pub sentences : Sentences d room
   sentences =
@@ -62,13 +62,13 @@ module _ (d : CobsDecoder) (room : ℕ) (g : bad d room ≡ false) where
         stopping = stopping;
         stopping_dest = stopping-dest;
         consumed = consumed;
-        early = λ t e. early-zero d room g e t;
+        early = λ t e. early_zero d room g e t;
         overfull = overfull;
-        restarts = λ s e w. pushes-through g w ∙ through-zero s d room g;
+        restarts = λ s e w. pushes_through g w ∙ through_zero s d room g;
         handed = λ s. (through d room s, pushes_all s d room g);
-        place = λ p f. rw (by_bytes p) (piece-rests p d room (stops-piece p f)).place;
+        place = λ p f. rw (by_bytes p) (piece_rests p d room (stops_piece p f)).place;
         good = λ p. push-good d room p g;
-        long = λ p m l. rw (push_dest-piece d p m (rw l g)) (length-piece p d (length m) m ∙ l);
+        long = λ p m l. rw (push_dest_piece d p m (rw l g)) (length_piece p d (length m) m ∙ l);
       }
 
 pub from-new : (room : ℕ) (piece : List ℕ) → FromNew room piece

@@ -10,17 +10,17 @@ use lib.ListN.{length, get_or, take, drop, set, length-set, length-drop, length-
 use lib.Seq.{paste, paste-zero, paste-suc, length-paste, take-paste, drop-paste, drop-drop, take-add, drop-set-lt, take-set-lt, set-append_left, set-set, length-take-le, take-take, take_at}
 use borrow.Author.Tests.{ne_eqb}
 use Rattle.blocks.specs.Blocks.{is_clear, copied}
-use Rattle.blocks.proofs.Blocks.{clear-says, copied-fits}
+use Rattle.blocks.proofs.Blocks.{clear_says, copied-fits}
 use Rattle.dec.specs.Helpers.{inside, Ahead, Bytes, Clear, Patched}
 use Rattle.dec.specs.declared.stream.CobsDecoder.{CobsDecoder}
 use Rattle.dec.proofs.Turns.{ahead_none, ahead-on}
-use Rattle.dec.proofs.Inside.{step-code, same_ahead, steps-data}
+use Rattle.dec.proofs.Inside.{step-code, same_ahead, steps_data}
 
 -- ---- copies in parts
 
-paste-split : (m : List ℕ) (at : ℕ) (s : List ℕ) (t u : ℕ) → at + (t + u) ≤ length m → t + u ≤ length s
+paste_split : (m : List ℕ) (at : ℕ) (s : List ℕ) (t u : ℕ) → at + (t + u) ≤ length m → t + u ≤ length s
     → paste m at s (t + u) ≡ paste (paste m at s t) (at + t) (drop t s) u
-paste-split m at s t u hm hs =
+paste_split m at s t u hm hs =
     let e₁ : take (at + t) (paste m at s t) ≡ take at m ++ take t s = take-paste m at s t (omega arith) (omega arith) in
     let e₀ : at + t + u ≡ at + (t + u) = omega arith in
     let e₂ : drop (at + t + u) (paste m at s t) ≡ drop (at + (t + u)) m =
@@ -45,7 +45,7 @@ set_first m at s u v hm hs =
     let e₀ : at + 0 ≡ at = omega arith in
     let e₁ : paste m at s 1 ≡ set m at (get_or s 0 0) =
     sym (paste-suc m at s 0 0 (omega arith) (omega arith)) ∙ ap (λ (x : List ℕ). set x (at + 0) (get_or s 0 0)) (sym (paste-zero m at s)) ∙ ap (λ (j : ℕ). set m j (get_or s 0 0)) e₀ in
-    ap (λ (x : List ℕ). set x at v) (paste-split m at s 1 u hm hs)
+    ap (λ (x : List ℕ). set x at v) (paste_split m at s 1 u hm hs)
     ∙ set_before (paste m at s 1) (at + 1) (drop 1 s) u at v (omega arith) (omega (arith, ap length e₁, length-set m at (get_or s 0 0)))
     ∙ ap (λ (x : List ℕ). paste (set x at v) (at + 1) (drop 1 s) u) e₁
     ∙ ap (λ (x : List ℕ). paste x (at + 1) (drop 1 s) u) (set-set m at (get_or s 0 0) v)
@@ -84,7 +84,7 @@ module _ (p : List ℕ) (i place c₀ left₀ : ℕ) (m : List ℕ) (hp : i + 16
       let e₁ : place + k + t ≡ place + (k + t) = omega arith in
       let e₂ : i + k + t ≡ i + (k + t) = omega arith in
       let e₃ : t + (16 - (k + t)) ≡ 16 - k = omega arith in
-      let steps = steps-data t p (i + k) c l (place + k) mem hl (omega arith) (omega (arith, a.long))
+      let steps = steps_data t p (i + k) c l (place + k) mem hl (omega arith) (omega (arith, a.long))
       (λ j g. let e : i + (k + j) ≡ i + k + j = omega arith in subst (λ (y : ℕ). get_or p y 0 ≡ 0 → ⊥) e (clear (k + j) (omega arith))) in
       record {
         k = k + t;
@@ -98,7 +98,7 @@ module _ (p : List ℕ) (i place c₀ left₀ : ℕ) (m : List ℕ) (hp : i + 16
         shape =
             s
             ∙ ap (λ (y : ℕ). paste mem (place + k) (drop (i + k) p) y) (sym e₃)
-            ∙ paste-split mem (place + k) (drop (i + k) p) t (16 - (k + t)) (omega (arith, a.long)) (omega (arith, length-drop (i + k) p))
+            ∙ paste_split mem (place + k) (drop (i + k) p) t (16 - (k + t)) (omega (arith, a.long)) (omega (arith, length-drop (i + k) p))
             ∙ ap (λ (y : ℕ). paste (paste mem (place + k) (drop (i + k) p) t) y (drop t (drop (i + k) p)) (16 - (k + t))) e₁
             ∙ ap (λ (y : List ℕ). paste (paste mem (place + k) (drop (i + k) p) t) (place + (k + t)) y (16 - (k + t))) (drop-drop t (i + k) p ∙ ap (λ (y : ℕ). drop y p) e₂);
       }
@@ -152,13 +152,13 @@ module _ (p : List ℕ) (i place c₀ left₀ : ℕ) (m : List ℕ) (hp : i + 16
 -- ---- codes of 01 only
 
 module _ (p : List ℕ) (i place : ℕ) (m : List ℕ) (u : ℕ) where
-  steps-ones : (t : ℕ) → t ≤ u → i + t ≤ length p → place + t ≤ length m → ((k : ℕ) → k < t → get_or p (i + k) 0 ≡ 1)
+  steps_ones : (t : ℕ) → t ≤ u → i + t ≤ length p → place + t ≤ length m → ((k : ℕ) → k < t → get_or p (i + k) 0 ≡ 1)
       → Ahead (length m) p i (inside 1 0 place) m (i + t) (inside 1 0 (place + t)) (paste m place (replicate u 0) t)
-  steps-ones zero hu hi hp f =
+  steps_ones zero hu hi hp f =
       same_ahead 1 (ahead_none (length m) p i (inside 1 0 place) m) (i + 0) 0 (place + 0) (paste m place (replicate u 0) 0)
       (omega arith) refl (omega arith) (paste-zero m place (replicate u 0))
-  steps-ones (suc t) hu hi hp f =
-      let ih = steps-ones t (omega arith) (omega arith) (omega arith) (λ k l. f k (omega arith)) in
+  steps_ones (suc t) hu hi hp f =
+      let ih = steps_ones t (omega arith) (omega arith) (omega arith) (λ k l. f k (omega arith)) in
       let m₁ : List ℕ = paste m place (replicate u 0) t in
       let one : get_or p (i + t) 0 ≡ 1 = f t (omega arith) in
       let s = step-code (length m) p (i + t) (omega arith) (λ w. omega (arith, one, w)) 1 (place + t) m₁ (omega arith) (λ w. omega (arith, w)) in
@@ -172,7 +172,7 @@ module _ (p : List ℕ) (i place : ℕ) (m : List ℕ) (u : ℕ) where
 pub ones-patched : (p : List ℕ) (i place c left : ℕ) (d : List ℕ) → i + 16 ≤ length p → place + 16 ≤ length d → left ≡ 0 → (c ≡ 255 → 16 ≤ left)
     → ((k : ℕ) → k < 16 → get_or p (i + k) 0 ≡ 1) → (d' : List ℕ) → d' ≡ paste d place (replicate 16 0) 16 → Patched p i place c left d 1 0 d'
 ones-patched p i place c left d hp hd z nc f d' q m l e =
-    let a = steps-ones p i place m 16 16 (omega arith) hp (omega (arith, l)) f in
+    let a = steps_ones p i place m 16 16 (omega arith) hp (omega (arith, l)) f in
     let same : inside 1 0 place ≡ inside c left place = rw (z, ne_eqb c 255 (λ w. omega (arith, nc w, z))) in
     let end : paste m place (replicate 16 0) 16 ≡ d' =
     sym (q ∙ ap (λ (x : List ℕ). paste x place (replicate 16 0) 16) e ∙ paste-again m place (drop i p) (replicate 16 0) 16 (omega (arith, l)) (omega (arith, length-drop i p))) in
@@ -190,8 +190,8 @@ pub record Patching (p : List ℕ) (i : ℕ) (d₀ : List ℕ) (place c₀ left�
   pub mid : (m : List ℕ) → length m ≡ length d₀ → d₀ ≡ paste m place (drop i p) 16 → Mid p i place c₀ left₀ m c q d
 
 module _ (p : List ℕ) (i place c₀ left₀ : ℕ) (d₀ : List ℕ) (hp : i + 16 ≤ length p) (hd : place + 16 ≤ length d₀) (clear : Clear p i 16) where
-  pub patch-first : Bytes c₀ left₀ → (c₀ ≡ 255 → 16 ≤ left₀) → Patching p i d₀ place c₀ left₀ d₀ c₀ left₀
-  patch-first b f =
+  pub patch_first : Bytes c₀ left₀ → (c₀ ≡ 255 → 16 ≤ left₀) → Patching p i d₀ place c₀ left₀ d₀ c₀ left₀
+  patch_first b f =
       record {
         long = refl;
         code = b.code;
@@ -201,8 +201,8 @@ module _ (p : List ℕ) (i place c₀ left₀ : ℕ) (d₀ : List ℕ) (hp : i +
       }
 
   module _ (d : List ℕ) (c q : ℕ) (w : Patching p i d₀ place c₀ left₀ d c q) where
-    pub patch-code : q < 16 → (b : ℕ) → b ≡ get_or p (i + q) 0 → b ≤ 255 → Patching p i d₀ place c₀ left₀ (set d (place + q) 0) b (q + b)
-    patch-code h b eb lb =
+    pub patch_code : q < 16 → (b : ℕ) → b ≡ get_or p (i + q) 0 → b ≤ 255 → Patching p i d₀ place c₀ left₀ (set d (place + q) 0) b (q + b)
+    patch_code h b eb lb =
         record {
           long = length-set d (place + q) 0 ∙ w.long;
           code = lb;
@@ -212,8 +212,8 @@ module _ (p : List ℕ) (i place c₀ left₀ : ℕ) (d₀ : List ℕ) (hp : i +
               mid-code p i place c₀ left₀ m hp (omega (arith, l)) clear c q d (w.mid m l s) h (λ e. absurd (omega (arith, w.full e))) b eb (set d (place + q) 0) refl;
         }
 
-    pub patch-last : 16 ≤ q → Patched p i place c₀ left₀ d₀ c (q - 16) d
-    patch-last h m l s =
+    pub patch_last : 16 ≤ q → Patched p i place c₀ left₀ d₀ c (q - 16) d
+    patch_last h m l s =
         subst (λ (r : ℕ). Ahead r p i (inside c₀ left₀ place) m (i + 16) (inside c (q - 16) (place + 16)) d) l
         (mid-last p i place c₀ left₀ m hp (omega (arith, l)) clear c q d (w.mid m l s) h)
 
@@ -226,30 +226,30 @@ pub record Blocks (p : List ℕ) (from : ℕ) (d₀ : List ℕ) (to c₀ left₀
   pub bytes : Bytes c left
   pub ahead : Ahead (length d₀) p from (inside c₀ left₀ to) d₀ i (inside c left place) d
 
-pub blocks-first : (p : List ℕ) (from : ℕ) (d₀ : List ℕ) (to c₀ left₀ : ℕ) → from ≤ length p → to ≤ length d₀ → Bytes c₀ left₀
+pub blocks_first : (p : List ℕ) (from : ℕ) (d₀ : List ℕ) (to c₀ left₀ : ℕ) → from ≤ length p → to ≤ length d₀ → Bytes c₀ left₀
     → Blocks p from d₀ to c₀ left₀ d₀ from to c₀ left₀
-blocks-first p from d₀ to c₀ left₀ h k b =
+blocks_first p from d₀ to c₀ left₀ h k b =
     record { after = le_refl from; within = h; room = k; bytes = b; ahead = ahead_none (length d₀) p from (inside c₀ left₀ to) d₀ }
 
 module _ (p : List ℕ) (from : ℕ) (d₀ : List ℕ) (to c₀ left₀ : ℕ) (d : List ℕ) (i place c left : ℕ) (w : Blocks p from d₀ to c₀ left₀ d i place c left)
     (h : 16 ≤ length d - place) (clear : is_clear p i ≡ true) (d₁ : List ℕ) (e : d₁ ≡ copied d place p i) where
-  is-copy : d₁ ≡ paste d place (drop i p) 16
-  is-copy = e ∙ copied-fits d place p i (omega arith) (clear-says p i clear).0
+  is_copy : d₁ ≡ paste d place (drop i p) 16
+  is_copy = e ∙ copied-fits d place p i (omega arith) (clear_says p i clear).0
 
   long : length d₁ ≡ length d
-  long = ap length is-copy ∙ length-paste d place (drop i p) 16 (omega arith) (omega (arith, length-drop i p, (clear-says p i clear).0))
+  long = ap length is_copy ∙ length-paste d place (drop i p) 16 (omega arith) (omega (arith, length-drop i p, (clear_says p i clear).0))
 
   -- sixteen bytes stand in the piece and, copied, in the destination
   pub block-stands : (i + 16 ≤ length p) × (place + 16 ≤ length d₁)
-  block-stands = ((clear-says p i clear).0, omega (arith, long, w.room, w.ahead.long))
+  block-stands = ((clear_says p i clear).0, omega (arith, long, w.room, w.ahead.long))
 
   pub block-turn : (c' left' : ℕ) → Bytes c' left' → (d' : List ℕ) → Patched p i place c left d₁ c' left' d'
       → Blocks p from d₀ to c₀ left₀ d' (i + 16) (place + 16) c' left'
   block-turn c' left' b d' patched =
-      let a = patched d (sym long) is-copy in
+      let a = patched d (sym long) is_copy in
       record {
         after = omega (arith, w.after);
-        within = (clear-says p i clear).0;
+        within = (clear_says p i clear).0;
         room = omega (arith, w.ahead.long);
         bytes = b;
         ahead = ahead-on w.ahead (subst (λ (r : ℕ). Ahead r p i (inside c left place) d (i + 16) (inside c' left' (place + 16)) d') (long ∙ w.ahead.long) a);

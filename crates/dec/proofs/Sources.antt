@@ -14,8 +14,8 @@ use borrow.Author.Tests.{le-ltb, lt-ltb, ne_eqb}
 use Rattle.cobs.specs.Code.{body, cut}
 use Rattle.cobs.specs.Answers.{Told, is_done, done, invalid_frame, target_buf_too_small}
 use Rattle.cobs.specs.OneShot.{leading, closing, skipped, parsed, meant, decoded, decode_told, decode_dest}
-use Rattle.cobs.proofs.Reading.{read-empty}
-use Rattle.cobs.proofs.Bodies.{body-no-zero}
+use Rattle.cobs.proofs.Reading.{read_empty}
+use Rattle.cobs.proofs.Bodies.{body_no_zero}
 use Rattle.dec.specs.State.{stepped}
 use Rattle.dec.specs.Stream.{new, bad, is_more, byte_outcome, result_dest, byte_dest, piece_dest, push_outcome, push_dest}
 use Rattle.dec.specs.declared.state.DecoderState.{DecoderState}
@@ -64,7 +64,7 @@ module _ (src : List ℕ) where
 
   meant-none : skipped src ≡ [] → meant src ≡ cut []
   unfolding meant
-  meant-none e = rw e read-empty
+  meant-none e = rw e read_empty
 
   pub decoded-none : skipped src ≡ [] → decoded src ≡ []
   unfolding decoded
@@ -77,7 +77,7 @@ module _ (src : List ℕ) where
   run-some k =
       let w = closed (skipped src) in
       run-skipped src (0 ∷ [])
-      ∙ rw (ap (run Idle) w.1 ∙ run-body (body (skipped src)) w.0 (body-no-zero (skipped src)) k)
+      ∙ rw (ap (run Idle) w.1 ∙ run-body (body (skipped src)) w.0 (body_no_zero (skipped src)) k)
 
   parsed-some : min (leading src + suc (length (body (skipped src)))) (length src) ≡ parsed src
   unfolding parsed
@@ -97,24 +97,24 @@ module _ (src : List ℕ) (some : 0 < length src) (room : ℕ) where
   abbrev Streams : Type 0
   Streams = decode_told src room ≡ one_shot (length src) (push_outcome new room (src ++ 0 ∷ [])).answer
 
-  not-empty : eqb (length src) 0 ≡ false
-  not-empty = ne_eqb (length src) 0 (λ e. omega arith)
+  not_empty : eqb (length src) 0 ≡ false
+  not_empty = ne_eqb (length src) 0 (λ e. omega arith)
 
   streams-none : skipped src ≡ [] → Streams
   unfolding decode_told decoded
   streams-none e =
-      rw (not-empty, meant-none src e, le-ltb room 0 zero-le, new-fits (src ++ 0 ∷ []) _ (run_none src e) room zero-le)
+      rw (not_empty, meant-none src e, le-ltb room 0 zero-le, new-fits (src ++ 0 ∷ []) _ (run_none src e) room zero-le)
 
   streams-some : 0 < length (body (skipped src)) → Streams
   unfolding decode_told
   streams-some k =
       elim (dec_le (length (decoded src)) room) [
         | yes h ↦
-            rw (not-empty, le-ltb room (length (decoded src)) h, new-fits (src ++ 0 ∷ []) _ (run-some src k) room h, ran-body (meant src).whole (decoded src) (leading src + suc (length (body (skipped src)))))
+            rw (not_empty, le-ltb room (length (decoded src)) h, new-fits (src ++ 0 ∷ []) _ (run-some src k) room h, ran-body (meant src).whole (decoded src) (leading src + suc (length (body (skipped src)))))
             (fits (meant src).whole)
         | no h ↦
             let w = new-small (src ++ 0 ∷ []) _ (run-some src k) room (omega arith) in
-            rw (not-empty, lt-ltb room (length (decoded src)) (omega arith), w.1)
+            rw (not_empty, lt-ltb room (length (decoded src)) (omega arith), w.1)
       ]
     where
       fits : (t : Bool) → (if t then done (length (decoded src)) (parsed src) else invalid_frame (length (decoded src)) 0)
@@ -133,20 +133,20 @@ decode_dest-streams src d =
 
 -- ---- without the zero: what a push of the source alone leaves
 
-zero-result : (s : DecoderState) (place : ℕ) (m : List ℕ) → result_dest place (stepped s 0).result m ≡ m
-zero-result Idle place m = refl
-zero-result (Grab zero) place m = refl
-zero-result (Grab (suc left)) place m = refl
-zero-result (GrabChain zero) place m = refl
-zero-result (GrabChain (suc left)) place m = refl
+zero_result : (s : DecoderState) (place : ℕ) (m : List ℕ) → result_dest place (stepped s 0).result m ≡ m
+zero_result Idle place m = refl
+zero_result (Grab zero) place m = refl
+zero_result (Grab (suc left)) place m = refl
+zero_result (GrabChain zero) place m = refl
+zero_result (GrabChain (suc left)) place m = refl
 
 -- a zero writes nothing
-zero-writes : (d : CobsDecoder) (m : List ℕ) → push_dest d (0 ∷ []) m ≡ m
+zero_writes : (d : CobsDecoder) (m : List ℕ) → push_dest d (0 ∷ []) m ≡ m
 unfolding push_dest piece_dest byte_dest
-zero-writes d m =
+zero_writes d m =
     by_bool (bad d (length m)) (λ e. rw e)
     (λ e.
-    let w : byte_dest d 0 m ≡ m = by_bool d.skip (λ q. rw q) (λ q. rw q (zero-result d.state d.place m)) in
+    let w : byte_dest d 0 m ≡ m = by_bool d.skip (λ q. rw q) (λ q. rw q (zero_result d.state d.place m)) in
     rw e (by_bool (is_more (byte_outcome d (length m) 0)) (λ q. rw q w) (λ q. rw q w)))
 
 pub push-memory : (src d : List ℕ) → push_dest new src d ≡ decode_dest src d
@@ -154,4 +154,4 @@ push-memory src d =
     sym
     (decode_dest-streams src d
     ∙ push_dest-cut new src (0 ∷ []) d (new-good (length d))
-    ∙ by_bool (is_more (push_outcome new (length d) src)) (λ q. rw q (zero-writes (push_outcome new (length d) src).next (push_dest new src d))) (λ q. rw q))
+    ∙ by_bool (is_more (push_outcome new (length d) src)) (λ q. rw q (zero_writes (push_outcome new (length d) src).next (push_dest new src d))) (λ q. rw q))

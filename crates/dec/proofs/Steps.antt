@@ -33,14 +33,14 @@ ended-early (suc left) n = refl
 
 module _ (s : DecoderState) (b : ℕ) (r : Stepped) where
   module _ (e : b ≡ 0) where
-    pub zero-idle : s ≡ Idle → r ≡ gives Idle NoData → r ≡ stepped s b
-    zero-idle q p = p ∙ rw (q, e)
+    pub zero_idle : s ≡ Idle → r ≡ gives Idle NoData → r ≡ stepped s b
+    zero_idle q p = p ∙ rw (q, e)
 
-    pub zero-grab : (left : ℕ) → s ≡ Grab left → (g : DecodeResult) → g ≡ at_zero left → r ≡ gives Idle g → r ≡ stepped s b
-    zero-grab left q g z p = p ∙ rw (q, e, z)
+    pub zero_grab : (left : ℕ) → s ≡ Grab left → (g : DecodeResult) → g ≡ at_zero left → r ≡ gives Idle g → r ≡ stepped s b
+    zero_grab left q g z p = p ∙ rw (q, e, z)
 
-    pub zero-chain : (left : ℕ) → s ≡ GrabChain left → (g : DecodeResult) → g ≡ at_zero left → r ≡ gives Idle g → r ≡ stepped s b
-    zero-chain left q g z p = p ∙ rw (q, e, z)
+    pub zero_chain : (left : ℕ) → s ≡ GrabChain left → (g : DecodeResult) → g ≡ at_zero left → r ≡ gives Idle g → r ≡ stepped s b
+    zero_chain left q g z p = p ∙ rw (q, e, z)
 
 -- ---- any other byte: a code, or a byte of the group
 
@@ -49,27 +49,27 @@ pub code-idle : (s : DecoderState) (b : ℕ) (r : Stepped) → (b ≡ 0 → ⊥)
 code-idle s zero r n q t o p = absurd (n refl)
 code-idle s (suc b) r n q t o p = p ∙ rw (q, o)
 
-pub code-grab : (s : DecoderState) (b : ℕ) (r : Stepped) → (b ≡ 0 → ⊥) → (left : ℕ) → s ≡ Grab left → left ≡ 0 → (t : DecoderState) → t ≡ opened b
+pub code_grab : (s : DecoderState) (b : ℕ) (r : Stepped) → (b ≡ 0 → ⊥) → (left : ℕ) → s ≡ Grab left → left ≡ 0 → (t : DecoderState) → t ≡ opened b
     → r ≡ gives t (DataContinue 0) → r ≡ stepped s b
-code-grab s zero r n left q z t o p = absurd (n refl)
-code-grab s (suc b) r n left q z t o p = p ∙ rw (q, z, o)
+code_grab s zero r n left q z t o p = absurd (n refl)
+code_grab s (suc b) r n left q z t o p = p ∙ rw (q, z, o)
 
-pub code-chain : (s : DecoderState) (b : ℕ) (r : Stepped) → (b ≡ 0 → ⊥) → (left : ℕ) → s ≡ GrabChain left → left ≡ 0 → (t : DecoderState) → t ≡ opened b
+pub code_chain : (s : DecoderState) (b : ℕ) (r : Stepped) → (b ≡ 0 → ⊥) → (left : ℕ) → s ≡ GrabChain left → left ≡ 0 → (t : DecoderState) → t ≡ opened b
     → r ≡ gives t NoData → r ≡ stepped s b
-code-chain s zero r n left q z t o p = absurd (n refl)
-code-chain s (suc b) r n left q z t o p = p ∙ rw (q, z, o)
+code_chain s zero r n left q z t o p = absurd (n refl)
+code_chain s (suc b) r n left q z t o p = p ∙ rw (q, z, o)
 
-pub byte-grab : (s : DecoderState) (b : ℕ) (r : Stepped) → (b ≡ 0 → ⊥) → (left : ℕ) → s ≡ Grab left → (left ≡ 0 → ⊥)
+pub byte_grab : (s : DecoderState) (b : ℕ) (r : Stepped) → (b ≡ 0 → ⊥) → (left : ℕ) → s ≡ Grab left → (left ≡ 0 → ⊥)
     → r ≡ gives (Grab (left - 1)) (DataContinue b) → r ≡ stepped s b
-byte-grab s zero r n left q z p = absurd (n refl)
-byte-grab s (suc b) r n zero q z p = absurd (z refl)
-byte-grab s (suc b) r n (suc left) q z p = p ∙ rw q (ap (λ (k : ℕ). gives (Grab k) (DataContinue (suc b))) (omega arith))
+byte_grab s zero r n left q z p = absurd (n refl)
+byte_grab s (suc b) r n zero q z p = absurd (z refl)
+byte_grab s (suc b) r n (suc left) q z p = p ∙ rw q (ap (λ (k : ℕ). gives (Grab k) (DataContinue (suc b))) (omega arith))
 
-pub byte-chain : (s : DecoderState) (b : ℕ) (r : Stepped) → (b ≡ 0 → ⊥) → (left : ℕ) → s ≡ GrabChain left → (left ≡ 0 → ⊥)
+pub byte_chain : (s : DecoderState) (b : ℕ) (r : Stepped) → (b ≡ 0 → ⊥) → (left : ℕ) → s ≡ GrabChain left → (left ≡ 0 → ⊥)
     → r ≡ gives (GrabChain (left - 1)) (DataContinue b) → r ≡ stepped s b
-byte-chain s zero r n left q z p = absurd (n refl)
-byte-chain s (suc b) r n zero q z p = absurd (z refl)
-byte-chain s (suc b) r n (suc left) q z p = p ∙ rw q (ap (λ (k : ℕ). gives (GrabChain k) (DataContinue (suc b))) (omega arith))
+byte_chain s zero r n left q z p = absurd (n refl)
+byte_chain s (suc b) r n zero q z p = absurd (z refl)
+byte_chain s (suc b) r n (suc left) q z p = p ∙ rw q (ap (λ (k : ℕ). gives (GrabChain k) (DataContinue (suc b))) (omega arith))
 
 -- ---- the telling
 
@@ -86,5 +86,5 @@ told-given (GrabChain zero) (suc n) = refl
 told-given (GrabChain (suc left)) (suc n) = refl
 
 -- it follows from the equation
-pub is-told : (s : DecoderState) (b : ℕ) (r : Stepped) → r ≡ stepped s b → told_given r.result ≡ given_told s b
-is-told s b r e = ap (λ (x : Stepped). told_given x.result) e ∙ told-given s b
+pub is_told : (s : DecoderState) (b : ℕ) (r : Stepped) → r ≡ stepped s b → told_given r.result ≡ given_told s b
+is_told s b r e = ap (λ (x : Stepped). told_given x.result) e ∙ told-given s b

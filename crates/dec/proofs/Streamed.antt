@@ -9,7 +9,7 @@ use lib.Seq.{take-suc, take_all}
 use Rattle.dec.specs.Stream.{new, Outcome, goes, is_more, further, joined, piece_outcome, piece_dest, push_outcome, push_dest}
 use Rattle.dec.specs.declared.stream.CobsDecoder.{CobsDecoder}
 use Rattle.dec.proofs.Good.{new-good}
-use Rattle.dec.proofs.Pieces.{further-keeps, further-more, joined-more, push-piece, push_dest-piece, push-cut, push_dest-cut}
+use Rattle.dec.proofs.Pieces.{further-keeps, further-more, joined-more, push_piece, push_dest_piece, push-cut, push_dest-cut}
 
 -- Of the list p, i bytes are fed, and none of them stopped the decoder.
 pub record Streamed (p d₀ : List ℕ) (i : ℕ) (d : CobsDecoder) (m : List ℕ) : Type 0 where
@@ -17,17 +17,17 @@ pub record Streamed (p d₀ : List ℕ) (i : ℕ) (d : CobsDecoder) (m : List �
   pub memory : m ≡ push_dest new (take i p) d₀
   pub long : length m ≡ length d₀
 
-pub streamed-none : (p d₀ : List ℕ) (d : CobsDecoder) → d ≡ new → Streamed p d₀ 0 d d₀
+pub streamed_none : (p d₀ : List ℕ) (d : CobsDecoder) → d ≡ new → Streamed p d₀ 0 d d₀
 unfolding piece_outcome piece_dest
-streamed-none p d₀ d e =
+streamed_none p d₀ d e =
     record {
-      outcome = push-piece new (length d₀) (new-good (length d₀)) [] ∙ ap goes (sym e);
-      memory = sym (push_dest-piece new [] d₀ (new-good (length d₀)));
+      outcome = push_piece new (length d₀) (new-good (length d₀)) [] ∙ ap goes (sym e);
+      memory = sym (push_dest_piece new [] d₀ (new-good (length d₀)));
       long = refl;
     }
 
-pub streamed-all : (p d₀ : List ℕ) (i : ℕ) (d : CobsDecoder) (m : List ℕ) → Streamed p d₀ i d m → length p ≤ i → m ≡ push_dest new p d₀
-streamed-all p d₀ i d m w h = w.memory ∙ ap (λ (q : List ℕ). push_dest new q d₀) (take_all i p h)
+pub streamed_all : (p d₀ : List ℕ) (i : ℕ) (d : CobsDecoder) (m : List ℕ) → Streamed p d₀ i d m → length p ≤ i → m ≡ push_dest new p d₀
+streamed_all p d₀ i d m w h = w.memory ∙ ap (λ (q : List ℕ). push_dest new q d₀) (take_all i p h)
 
 module _ (p d₀ : List ℕ) (i : ℕ) (d : CobsDecoder) (m : List ℕ) (w : Streamed p d₀ i d m) (h : i < length p) (b : ℕ) (eb : b ≡ get_or p i 0)
     (o : Outcome) (e : o ≡ push_outcome d (length m) (b ∷ [])) (m' : List ℕ) (q : m' ≡ push_dest d (b ∷ []) m) where
@@ -50,8 +50,8 @@ module _ (p d₀ : List ℕ) (i : ℕ) (d : CobsDecoder) (m : List ℕ) (w : Str
       ∙ rw w.outcome (ap (push_dest d (b ∷ [])) (sym w.memory) ∙ sym q))
 
   -- the byte goes on
-  pub streamed-more : length m' ≡ length m → (d' : CobsDecoder) → o ≡ goes d' → Streamed p d₀ (i + 1) d' m'
-  streamed-more l d' f =
+  pub streamed_more : length m' ≡ length m → (d' : CobsDecoder) → o ≡ goes d' → Streamed p d₀ (i + 1) d' m'
+  streamed_more l d' f =
       record {
         outcome = next ∙ ap (further (length (take i p))) f ∙ further-keeps (length (take i p)) (goes d') refl;
         memory = left;
@@ -59,8 +59,8 @@ module _ (p d₀ : List ℕ) (i : ℕ) (d : CobsDecoder) (m : List ℕ) (w : Str
       }
 
   -- it stops: the rest of the list is not taken
-  pub streamed-stop : is_more o ≡ false → m' ≡ push_dest new p d₀
-  streamed-stop f =
+  pub streamed_stop : is_more o ≡ false → m' ≡ push_dest new p d₀
+  streamed_stop f =
       let s : is_more (push_outcome new (length d₀) (take (i + 1) p)) ≡ false = ap is_more next ∙ further-more (length (take i p)) o ∙ f in
       left
       ∙ sym

@@ -10,7 +10,7 @@ use Rattle.dec.specs.Stream.{bad, Outcome, goes, stops, is_more, byte_outcome, b
 use Rattle.dec.specs.Helpers.{Ahead}
 use Rattle.dec.specs.declared.stream.CobsDecoder.{CobsDecoder}
 use Rattle.dec.proofs.Cases.{by_bool, drop-next}
-use Rattle.dec.proofs.Pieces.{length-byte, further-more, further-goes, further-zero, further-add, piece-goes, piece-stops, dest-goes, dest-stops, byte-goes, push-piece, push_dest-piece}
+use Rattle.dec.proofs.Pieces.{length-byte, further-more, further-goes, further_zero, further_add, piece_goes, piece_stops, dest-goes, dest-stops, byte-goes, push_piece, push_dest_piece}
 
 pub ahead_none : (room : ℕ) (p : List ℕ) (i : ℕ) (d : CobsDecoder) (m : List ℕ) → Ahead room p i d m i d m
 ahead_none room p i d m = record { answer = refl; memory = refl; long = refl }
@@ -31,7 +31,7 @@ ahead-byte room p i d m h b eb d' e m' q =
     let s : List ℕ = drop (i + 1) p in
     let next : drop i p ≡ b ∷ drop (i + 1) p = drop-next p i h ∙ ap (λ (x : ℕ). x ∷ drop (i + 1) p) (sym eb) in
     record {
-      answer = ap (λ (x : List ℕ). further i (piece_outcome d room x)) next ∙ ap (further i) (piece-goes d room b s d' e) ∙ further-add i 1 (piece_outcome d' room s);
+      answer = ap (λ (x : List ℕ). further i (piece_outcome d room x)) next ∙ ap (further i) (piece_goes d room b s d' e) ∙ further_add i 1 (piece_outcome d' room s);
       memory = ap (λ (x : List ℕ). piece_dest d room x m) next ∙ dest-goes d room b s d' e m ∙ ap (piece_dest d' room s) (sym q);
       long = ap length q ∙ length-byte d b m;
     }
@@ -49,10 +49,10 @@ module _ (d₀ : CobsDecoder) (p m₀ : List ℕ) where
 
   module _ (g : bad d₀ (length m₀) ≡ false) (i : ℕ) (d : CobsDecoder) (m : List ℕ) (a : Ahead (length m₀) p 0 d₀ m₀ i d m) where
     whole-answer : push_outcome d₀ (length m₀) p ≡ further i (piece_outcome d (length m₀) (drop i p))
-    whole-answer = push-piece d₀ (length m₀) g p ∙ sym (further-zero (piece_outcome d₀ (length m₀) p)) ∙ a.answer
+    whole-answer = push_piece d₀ (length m₀) g p ∙ sym (further_zero (piece_outcome d₀ (length m₀) p)) ∙ a.answer
 
     whole-memory : push_dest d₀ p m₀ ≡ piece_dest d (length m₀) (drop i p) m
-    whole-memory = push_dest-piece d₀ p m₀ g ∙ a.memory
+    whole-memory = push_dest_piece d₀ p m₀ g ∙ a.memory
 
     -- the piece is used up
     pub push-ends : length p ≤ i → Whole (goes d) m
@@ -75,7 +75,7 @@ module _ (d₀ : CobsDecoder) (p m₀ : List ℕ) where
       push-stops f =
           let s : is_more (byte_outcome d (length m₀) b) ≡ false = sym (further-more i (byte_outcome d (length m₀) b)) ∙ ap is_more (sym taken) ∙ f in (
             taken
-                ∙ sym (whole-answer ∙ ap (λ (x : List ℕ). further i (piece_outcome d (length m₀) x)) next ∙ ap (further i) (piece-stops d (length m₀) b (drop (i + 1) p) s)),
+                ∙ sym (whole-answer ∙ ap (λ (x : List ℕ). further i (piece_outcome d (length m₀) x)) next ∙ ap (further i) (piece_stops d (length m₀) b (drop (i + 1) p) s)),
             q ∙ sym (whole-memory ∙ ap (λ (x : List ℕ). piece_dest d (length m₀) x m) next ∙ dest-stops d (length m₀) b (drop (i + 1) p) s m),
           )
 
@@ -90,7 +90,7 @@ pub push-one : (d : CobsDecoder) (b : ℕ) (m : List ℕ) → bad d (length m) �
 push-one d b m g o e m' q =
     let start : Ahead (length m) (b ∷ []) 0 d m 0 d m = ahead_none (length m) (b ∷ []) 0 d m in
     let one : 0 < length (b ∷ []) = omega arith in
-    let is : o ≡ byte_outcome d (length m) b = e ∙ further-zero (byte_outcome d (length m) b) in
+    let is : o ≡ byte_outcome d (length m) b = e ∙ further_zero (byte_outcome d (length m) b) in
     by_bool (is_more o)
     (λ f.
     let on : o ≡ goes o.next = is ∙ byte-goes d (length m) b (ap is_more (sym is) ∙ f) ∙ ap (λ (x : Outcome). goes x.next) (sym is) in

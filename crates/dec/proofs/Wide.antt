@@ -14,7 +14,7 @@ use Rattle.dec.specs.declared.state.DecodeResult.{DecodeResult}
 use Rattle.dec.specs.declared.state.DecodeResult.TheVariants.{NoData, DataStart, DataComplete, DataContinue, InvalidFrame}
 use Rattle.dec.specs.declared.stream.CobsDecoder.{CobsDecoder}
 use Rattle.dec.proofs.Cases.{by_bool}
-use Rattle.dec.proofs.Pieces.{joined-more, joined-stop, further-next}
+use Rattle.dec.proofs.Pieces.{joined-more, joined_stop, further-next}
 
 -- The bytes left of the open group.
 abbrev pub left : DecoderState → ℕ
@@ -59,17 +59,17 @@ Gives DataComplete = Unit {0}
 Gives (DataContinue b) = b < 256
 Gives InvalidFrame = Unit {0}
 
-zero-gives : (k : ℕ) → Gives (at_zero k)
-zero-gives zero = tt
-zero-gives (suc k) = tt
+zero_gives : (k : ℕ) → Gives (at_zero k)
+zero_gives zero = tt
+zero_gives (suc k) = tt
 
 step_gives : (s : DecoderState) (b : ℕ) → b < 256 → Gives (stepped s b).result
 step_gives Idle zero l = tt
 step_gives Idle (suc n) l = tt
-step_gives (Grab k) zero l = zero-gives k
+step_gives (Grab k) zero l = zero_gives k
 step_gives (Grab zero) (suc n) l = omega arith
 step_gives (Grab (suc k)) (suc n) l = l
-step_gives (GrabChain k) zero l = zero-gives k
+step_gives (GrabChain k) zero l = zero_gives k
 step_gives (GrabChain zero) (suc n) l = tt
 step_gives (GrabChain (suc k)) (suc n) l = l
 
@@ -87,15 +87,15 @@ byte-bytes d b m l h =
 
 -- ---- a piece
 
-pub piece-left : (p : List ℕ) (d : CobsDecoder) (room : ℕ) → left d.state < 256 → Bytes p → left (piece_outcome d room p).next.state < 256
+pub piece_left : (p : List ℕ) (d : CobsDecoder) (room : ℕ) → left d.state < 256 → Bytes p → left (piece_outcome d room p).next.state < 256
 unfolding piece_outcome
-piece-left [] d room h l = h
-piece-left (b ∷ p) d room h l =
+piece_left [] d room h l = h
+piece_left (b ∷ p) d room h l =
     let o : Outcome = byte_outcome d room b in
     let first = byte_left d room b h l.0 in
     by_bool (is_more o)
-    (λ e. rw (joined-more 1 o (piece_outcome o.next room p) e, further-next 1 (piece_outcome o.next room p)) (piece-left p o.next room first l.1))
-    (λ e. rw (joined-stop 1 o (piece_outcome o.next room p) e) first)
+    (λ e. rw (joined-more 1 o (piece_outcome o.next room p) e, further-next 1 (piece_outcome o.next room p)) (piece_left p o.next room first l.1))
+    (λ e. rw (joined_stop 1 o (piece_outcome o.next room p) e) first)
 
 pub piece_bytes : (p : List ℕ) (d : CobsDecoder) (room : ℕ) (m : List ℕ) → Bytes p → Bytes m → Bytes (piece_dest d room p m)
 unfolding piece_dest

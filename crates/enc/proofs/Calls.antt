@@ -22,7 +22,7 @@ use Rattle.enc.specs.declared.stream.Started.TheVariants as start
 use Rattle.enc.specs.declared.stream.Accepted.{Accepted}
 use Rattle.enc.specs.declared.stream.Accepted.TheVariants as accept
 use Rattle.enc.specs.contracts.stream.Accepted.{the_type}
-use Rattle.enc.proofs.Deciding.{by-lt}
+use Rattle.enc.proofs.Deciding.{by_lt}
 use Rattle.enc.proofs.Steps.{Sound, sound}
 use Rattle.enc.proofs.Pieces.{Good, good, place-finished}
 
@@ -33,9 +33,9 @@ good-sound e room g h = record { group = g.group; low = omega (arith, g.fits, pl
 -- ---- start
 
 -- an encoder that `start` gave is fresh, and its buffer is not empty
-pub ready-fresh : (room : ℕ) (e : Encoder) → started room ≡ start.Ready e → (0 < room) × (e ≡ fresh)
+pub ready_fresh : (room : ℕ) (e : Encoder) → started room ≡ start.Ready e → (0 < room) × (e ≡ fresh)
 unfolding started
-ready-fresh room e q = go (eqb room 0) refl q
+ready_fresh room e q = go (eqb room 0) refl q
   where
     go : (t : Bool) → eqb room 0 ≡ t → (if t then start.DestBufTooSmall else start.Ready fresh) ≡ start.Ready e → (0 < room) × (e ≡ fresh)
     go true h k = let z : ◌≡◌ {A = ℕ} 0 1 = cc in absurd (omega arith)
@@ -73,8 +73,8 @@ by-push P e p room bad long small fits = go (is_bad e room) refl
   where
     judge : Good e room → P (push_told e p room)
     judge g =
-        by-lt longest (e.count + length p) (λ h. subst P (push-long e p room g h) (long g h))
-        (λ h. by-lt room (finished_length (move_all e p)) (λ k. subst P (push-small e p room g h k) (small g h k))
+        by_lt longest (e.count + length p) (λ h. subst P (push-long e p room g h) (long g h))
+        (λ h. by_lt room (finished_length (move_all e p)) (λ k. subst P (push-small e p room g h k) (small g h k))
         (λ k. subst P (push-done e p room g h k) (fits g h k)))
 
     go : (t : Bool) → is_bad e room ≡ t → P (push_told e p room)
@@ -120,8 +120,8 @@ module _ (s : EncoderState) (g : Sound s) (r : StateFinished) (q : r ≡ state_f
   pub finalize-asks : (place code : ℕ) → r ≡ Modify place code → (place ≡ s.place) × (code ≡ s.code)
   finalize-asks place code k = let f = finalized in (cc, cc)
 
-  pub finalize-not-bad : r ≡ BadState → ⊥
-  finalize-not-bad k = let f = finalized in let z : ◌≡◌ {A = ℕ} 0 1 = cc in omega arith
+  pub finalize_not_bad : r ≡ BadState → ⊥
+  finalize_not_bad k = let f = finalized in let z : ◌≡◌ {A = ℕ} 0 1 = cc in omega arith
 
 module _ (e : Encoder) (d : List ℕ) where
   pub finish-bad : is_bad e (length d) ≡ true → (bad_state ≡ finish_told e (length d)) × (d ≡ finish_dest e d)

@@ -7,22 +7,22 @@ use native.Mathlib.Omega.{arith}
 use lib.ListN.{length, get_or, take, drop, length-append, length-drop}
 use lib.Seq.{length-take-le, split_at, get_or-drop, drop-drop}
 use Rattle.cobs.specs.Code.{NoZero, encode}
-use Rattle.cobs.proofs.Runs.{no-zero-append}
+use Rattle.cobs.proofs.Runs.{no_zero_append}
 use Rattle.cobs.proofs.Groups.{encode-last, encode-cut}
 use Rattle.blocks.specs.Blocks.{is_clear}
-use Rattle.blocks.proofs.Blocks.{clear-says}
-use Rattle.enc.proofs.Deciding.{by-lt}
-use Rattle.enc.proofs.Tails.{RunAt, tail-full}
+use Rattle.blocks.proofs.Blocks.{clear_says}
+use Rattle.enc.proofs.Deciding.{by_lt}
+use Rattle.enc.proofs.Tails.{RunAt, tail_full}
 
 -- the bytes a before a zero, behind an open group's r
-before-zero : (r a t : List ℕ) → NoZero r → length r + length a < 254 → length (encode (r ++ (a ++ 0 ∷ t))) ≡ length r + length a + 1 + length (encode t)
-before-zero r [] t h l = rw (encode-cut r h (omega arith) t, length-append r (encode t)) (omega arith)
-before-zero r (zero ∷ a) t h l =
-    rw (encode-cut r h (omega arith) (a ++ 0 ∷ t), length-append r (encode (a ++ 0 ∷ t)), before-zero [] a t tt (omega arith)) (omega arith)
-before-zero r (suc b ∷ a) t h l =
+before_zero : (r a t : List ℕ) → NoZero r → length r + length a < 254 → length (encode (r ++ (a ++ 0 ∷ t))) ≡ length r + length a + 1 + length (encode t)
+before_zero r [] t h l = rw (encode-cut r h (omega arith) t, length-append r (encode t)) (omega arith)
+before_zero r (zero ∷ a) t h l =
+    rw (encode-cut r h (omega arith) (a ++ 0 ∷ t), length-append r (encode (a ++ 0 ∷ t)), before_zero [] a t tt (omega arith)) (omega arith)
+before_zero r (suc b ∷ a) t h l =
     let e : length (r ++ suc b ∷ []) ≡ length r + 1 = length-append r (suc b ∷ []) in
     ap (λ (s : List ℕ). length (encode s)) (sym (append_assoc r (suc b ∷ []) (a ++ 0 ∷ t)))
-    ∙ before-zero (r ++ suc b ∷ []) a t (no-zero-append r (suc b ∷ []) h (suc-le-suc zero-le, tt)) (omega (arith, e)) ∙ omega (arith, e)
+    ∙ before_zero (r ++ suc b ∷ []) a t (no_zero_append r (suc b ∷ []) h (suc-le-suc zero-le, tt)) (omega (arith, e)) ∙ omega (arith, e)
 
 -- a message that no full group with more behind it can be in
 few_bytes : (r a : List ℕ) → NoZero r → length r + length a ≤ 254 → length (encode (r ++ a)) ≡ length r + length a + 1
@@ -31,7 +31,7 @@ few_bytes r (zero ∷ a) h l = rw (encode-cut r h (omega arith) a, length-append
 few_bytes r (suc b ∷ a) h l =
     let e : length (r ++ suc b ∷ []) ≡ length r + 1 = length-append r (suc b ∷ []) in
     ap (λ (s : List ℕ). length (encode s)) (sym (append_assoc r (suc b ∷ []) a))
-    ∙ few_bytes (r ++ suc b ∷ []) a (no-zero-append r (suc b ∷ []) h (suc-le-suc zero-le, tt)) (omega (arith, e)) ∙ omega (arith, e)
+    ∙ few_bytes (r ++ suc b ∷ []) a (no_zero_append r (suc b ∷ []) h (suc-le-suc zero-le, tt)) (omega (arith, e)) ∙ omega (arith, e)
 
 -- ---- from a place of the source
 
@@ -40,8 +40,8 @@ module _ (s : List ℕ) (i : ℕ) where
   count-last h k = few_bytes [] (drop i s) tt (omega (arith, length-drop i s)) ∙ omega (arith, length-drop i s)
 
   -- a zero before j
-  pub count-zero : (j : ℕ) → i < j → j ≤ i + 254 → j ≤ length s → get_or s (j - 1) 0 ≡ 0 → length (encode (drop i s)) ≡ j - i + length (encode (drop j s))
-  count-zero j h few k z =
+  pub count_zero : (j : ℕ) → i < j → j ≤ i + 254 → j ≤ length s → get_or s (j - 1) 0 ≡ 0 → length (encode (drop i s)) ≡ j - i + length (encode (drop j s))
+  count_zero j h few k z =
       let n : ℕ = j - 1 - i in
       let l : length (take n (drop i s)) ≡ n = length-take-le n (drop i s) (omega (arith, length-drop i s)) in
       let at : i + n ≡ j - 1 = omega arith in
@@ -49,7 +49,7 @@ module _ (s : List ℕ) (i : ℕ) where
       let e : drop i s ≡ take n (drop i s) ++ 0 ∷ drop j s =
       split_at (drop i s) n 0 (omega (arith, length-drop i s))
       ∙ rw (get_or-drop i s n 0, at, z, drop-drop (suc n) i s, next) in
-      ap (λ (t : List ℕ). length (encode t)) e ∙ before-zero [] (take n (drop i s)) (drop j s) tt (omega (arith, l)) ∙ omega (arith, l)
+      ap (λ (t : List ℕ). length (encode t)) e ∙ before_zero [] (take n (drop i s)) (drop j s) tt (omega (arith, l)) ∙ omega (arith, l)
 
   -- none among 254, and more behind them
   pub count-full : i + 254 < length s → ((k : ℕ) → i ≤ k → k < i + 254 → get_or s k 0 ≡ 0 → ⊥)
@@ -58,7 +58,7 @@ module _ (s : List ℕ) (i : ℕ) where
       let r : RunAt s i 254 =
       record { few = omega arith; within = omega arith; clean = λ k l. nz (i + k) (omega arith) (omega arith); stops = λ l m. absurd (omega arith) }
       in
-      ap length (tail-full s i 254 r h refl)
+      ap length (tail_full s i 254 r h refl)
       ∙ ap suc (length-append (take 254 (drop i s)) (encode (drop (i + 254) s)))
       ∙ omega (arith, length-take-le 254 (drop i s) (omega (arith, length-drop i s)))
 
@@ -69,10 +69,10 @@ Clean s a b = (k : ℕ) → a ≤ k → k < b → get_or s k 0 ≡ 0 → ⊥
 
 pub clean-byte : (s : List ℕ) (a b : ℕ) → 0 < a → Clean s a b → (get_or s (a - 1) 0 ≡ 0 → ⊥) → Clean s (a - 1) b
 clean-byte s a b h c nz k l m =
-    by-lt k a (λ g. subst (λ (j : ℕ). get_or s j 0 ≡ 0 → ⊥) (omega arith) nz) (λ g. c k g m)
+    by_lt k a (λ g. subst (λ (j : ℕ). get_or s j 0 ≡ 0 → ⊥) (omega arith) nz) (λ g. c k g m)
 
 pub clean-sixteen : (s : List ℕ) (a b : ℕ) → 16 ≤ a → Clean s a b → is_clear s (a - 16) ≡ true → Clean s (a - 16) b
 clean-sixteen s a b h c q k l m =
-    by-lt k a
-    (λ g. subst (λ (j : ℕ). get_or s j 0 ≡ 0 → ⊥) (omega arith) ((clear-says s (a - 16) q).1 (k - (a - 16)) (omega arith)))
+    by_lt k a
+    (λ g. subst (λ (j : ℕ). get_or s j 0 ≡ 0 → ⊥) (omega arith) ((clear_says s (a - 16) q).1 (k - (a - 16)) (omega arith)))
     (λ g. c k g m)

@@ -15,9 +15,9 @@ use Rattle.enc.specs.Sentences.{Call, push, finalize, Work, answer, called, call
 use Rattle.enc.proofs.Sentences.{sentences}
 
 -- from a fresh encoder, on a buffer that `start` takes
-at-work : (d : List ℕ) → 0 < length d → (cs : List Call) → Streaming d (calls (begun fresh d) cs)
+at_work : (d : List ℕ) → 0 < length d → (cs : List Call) → Streaming d (calls (begun fresh d) cs)
 unfolding started
-at-work d h = sentences.streaming d fresh (rw (ne_eqb (length d) 0 (omega arith)))
+at_work d h = sentences.streaming d fresh (rw (ne_eqb (length d) 0 (omega arith)))
 
 -- ---- one byte of room: nothing but the empty piece is accepted, and what is finished is 01
 
@@ -25,7 +25,7 @@ abbrev one_byte : Work
 one_byte = calls (begun fresh (7 ∷ [])) (finalize ∷ push [] ∷ push (0x11 ∷ []) ∷ [])
 
 least : Streaming (7 ∷ []) one_byte
-least = at-work (7 ∷ []) (omega arith) (finalize ∷ push [] ∷ push (0x11 ∷ []) ∷ [])
+least = at_work (7 ∷ []) (omega arith) (finalize ∷ push [] ∷ push (0x11 ∷ []) ∷ [])
 
 pub least-answers : (answer one_byte [] ≡ done 0 0) × (answer one_byte (0x11 ∷ []) ≡ dest_buf_too_small)
 unfolding calls fit_told encode encode_in push_told push_next push_dest finish_told finish_dest is_bad move_all write_all moved step
@@ -40,9 +40,9 @@ least-bytes = least.bytes
 abbrev four_bytes : Work
 four_bytes = calls (begun fresh (replicate 6 9)) (push (0x11 ∷ 0x22 ∷ []) ∷ finalize ∷ push (replicate 5 1) ∷ push (0 ∷ 0x33 ∷ []) ∷ [])
 
-pub between-bytes : finish_dest four_bytes.encoder four_bytes.buffer ≡ 3 ∷ 0x11 ∷ 0x22 ∷ 2 ∷ 0x33 ∷ 9 ∷ []
+pub between_bytes : finish_dest four_bytes.encoder four_bytes.buffer ≡ 3 ∷ 0x11 ∷ 0x22 ∷ 2 ∷ 0x33 ∷ 9 ∷ []
 unfolding calls encode encode_in push_told push_next push_dest finish_told finish_dest is_bad move_all write_all moved wrote step
-between-bytes = (at-work (replicate 6 9) (omega arith) (push (0x11 ∷ 0x22 ∷ []) ∷ finalize ∷ push (replicate 5 1) ∷ push (0 ∷ 0x33 ∷ []) ∷ [])).bytes
+between_bytes = (at_work (replicate 6 9) (omega arith) (push (0x11 ∷ 0x22 ∷ []) ∷ finalize ∷ push (replicate 5 1) ∷ push (0 ∷ 0x33 ∷ []) ∷ [])).bytes
 
 -- ---- 1,048,576 bytes in room for the most they can need: accepted whole, and then no byte more
 
@@ -51,28 +51,28 @@ module _ (m d : List ℕ) (many : length m ≡ 1_048_576) (room : 1_052_705 ≤ 
   unfolding calls fit_told
   most-accepted =
       let l : length (encode m) ≤ 1_052_705 = rw many at (encode-length m) in
-      (at-work d (omega arith) []).accepts m ∙ rw (many, le-ltb (length d) (length (encode m)) (omega arith))
+      (at_work d (omega arith) []).accepts m ∙ rw (many, le-ltb (length d) (length (encode m)) (omega arith))
 
   pub most-refused : (b : ℕ) → answer (calls (begun fresh d) (push m ∷ [])) (b ∷ []) ≡ too_long
   unfolding calls fit_told
   most-refused b =
       let l : length (m ++ b ∷ []) ≡ 1_048_577 = length-append m (b ∷ []) ∙ omega arith in
-      (at-work d (omega arith) (push m ∷ [])).accepts (b ∷ []) ∙ rw (most-accepted, l)
+      (at_work d (omega arith) (push m ∷ [])).accepts (b ∷ []) ∙ rw (most-accepted, l)
 
 -- ---- a good state that no call reaches stays good: all bytes counted, and the first group still open
 
 abbrev unreached : Work
 unreached = record { encoder = record { state = opened 0 254; full = false; count = 1_048_576 }; buffer = replicate 254 0; accepted = [] }
 
-pub unreached-stays : (c : Call) → is_bad (called unreached c).encoder 254 ≡ false
+pub unreached_stays : (c : Call) → is_bad (called unreached c).encoder 254 ≡ false
 unfolding is_bad
-unreached-stays c = (sentences.leaves unreached c).good refl
+unreached_stays c = (sentences.leaves unreached c).good refl
 
 -- ---- the state alone: the first place from which a zero or a full group leads to a BadState, and the last from which it does not
 
-pub alone-zero : (state_bad (state_push (opened last_place 1) 0).next ≡ true) × (state_bad (state_push (opened (last_place - 1) 1) 0).next ≡ false)
+pub alone_zero : (state_bad (state_push (opened last_place 1) 0).next ≡ true) × (state_bad (state_push (opened (last_place - 1) 1) 0).next ≡ false)
 unfolding state_bad state_push step
-alone-zero = ((sentences.alone (opened last_place 1) 0 refl).all (omega arith), refl)
+alone_zero = ((sentences.alone (opened last_place 1) 0 refl).all (omega arith), refl)
 
 pub alone-full : (state_bad (state_push (opened (last_place - 254) 254) 1).next ≡ true) × (state_bad (state_push (opened (last_place - 255) 254) 1).next ≡ false)
 unfolding state_bad state_push step

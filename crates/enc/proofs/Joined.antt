@@ -85,8 +85,8 @@ rest-finished e d n h = by-finish (λ (l : List ℕ). drop n l ≡ drop n d) e d
 
 -- ---- buffers that finish alike: at most the byte at the open code's place differs
 
-pub closed-twice : (e : Encoder) (d : List ℕ) → closed e (closed e d) ≡ closed e d
-closed-twice e d = go e.full
+pub closed_twice : (e : Encoder) (d : List ℕ) → closed e (closed e d) ≡ closed e d
+closed_twice e d = go e.full
   where
     go : (t : Bool) → (if t then (if t then d else set d e.state.place e.state.code)
         else set (if t then d else set d e.state.place e.state.code) e.state.place e.state.code)

@@ -100,7 +100,7 @@ unfolding move_all moved
 finished-count [] s full m n = refl
 finished-count (b ∷ p) s full m n = finished-count p (step s b).next (closes_full (step s b).result) (m + 1) (n + 1)
 
-pub counting-end : (p : List ℕ) (e : Encoder) (i place code : ℕ) (full : Bool)
+pub counting_end : (p : List ℕ) (e : Encoder) (i place code : ℕ) (full : Bool)
     → Going p (numbered e.state.place e.state.code e.full 0) i (numbered place code full i) → length p ≤ i
     → (if full then place else place + code) ≡ finished_length (move_all e p)
-counting-end p e i place code full g h = ap finished_length (going_end p _ i _ g h) ∙ finished-count p e.state e.full 0 e.count
+counting_end p e i place code full g h = ap finished_length (going_end p _ i _ g h) ∙ finished-count p e.state e.full 0 e.count

@@ -7,12 +7,12 @@ use native.Mathlib.Omega.{arith}
 use lib.ListN.{length, get_or, take, drop, set, length-set, length-append, length-drop, take-append-drop}
 use lib.Seq.{paste, length-paste, get_or-drop, drop-set-lt, take-set-le, length-take-le, get_or-set_same, get_or-set_other}
 use Rattle.cobs.specs.Code.{encode, over}
-use Rattle.cobs.proofs.Encoding.{encode-longer}
+use Rattle.cobs.proofs.Encoding.{encode_longer}
 use Rattle.cobs.proofs.Over.{over-fits}
 use Rattle.enc.specs.Fast.{Open, Kept}
-use Rattle.enc.proofs.Deciding.{by-lt}
-use Rattle.enc.proofs.Parts.{Same, group-front, paste-before, paste-in, paste-take, paste-drop}
-use Rattle.enc.proofs.Tails.{RunAt, tail-end, tail-full, tail-cut}
+use Rattle.enc.proofs.Deciding.{by_lt}
+use Rattle.enc.proofs.Parts.{Same, group-front, paste-before, paste_in, paste-take, paste-drop}
+use Rattle.enc.proofs.Tails.{RunAt, tail_end, tail_full, tail_cut}
 
 -- ---- what stays
 
@@ -66,7 +66,7 @@ same-open {s} {d} {i} {i'} {p} {p'} {out} {out'} {a} {a'} o q₁ q₂ q₃ q₄ 
 module _ (s : List ℕ) (i place out a : ℕ) (d : List ℕ) (o : Open s i place out a d) where
   -- each byte that is left makes one at least
   pub room : out + (length s - i) ≤ length (encode s)
-  room = omega (arith, o.size, encode-longer (drop o.start s), length-drop o.start s, o.here, o.code, o.within)
+  room = omega (arith, o.size, encode_longer (drop o.start s), length-drop o.start s, o.here, o.code, o.within)
 
   -- ---- bytes ahead
 
@@ -96,13 +96,13 @@ module _ (s : List ℕ) (i place out a : ℕ) (d : List ℕ) (o : Open s i place
       changed n h (paste d out (drop i s) n) (length-paste d out (drop i s) n hd ht)
       (paste-take d out (drop i s) n hd ht place (omega (arith, o.code)))
       (λ k l.
-      by-lt k o.run
+      by_lt k o.run
       (λ m. paste-before d out (drop i s) n hd ht (place + 1 + k) (omega (arith, o.code)) ∙ o.copied k (omega arith))
       (λ m.
       let e : out + (k - o.run) ≡ place + 1 + k = omega (arith, o.code) in
       let e' : i + (k - o.run) ≡ o.start + k = omega (arith, o.here) in
       ap (λ (j : ℕ). get_or (paste d out (drop i s) n) j 0) (sym e)
-      ∙ paste-in d out (drop i s) n hd ht (k - o.run) (omega arith)
+      ∙ paste_in d out (drop i s) n hd ht (k - o.run) (omega arith)
       ∙ get_or-drop i s (k - o.run) 0
       ∙ ap (λ (j : ℕ). get_or s j 0) e'))
 
@@ -117,7 +117,7 @@ module _ (s : List ℕ) (i place out a : ℕ) (d : List ℕ) (o : Open s i place
         code = omega (arith, o.code);
         few = omega (arith, o.code);
         within = omega (arith, o.within);
-        clean = λ k l. by-lt k o.run (λ m. o.clean k m)
+        clean = λ k l. by_lt k o.run (λ m. o.clean k m)
             (λ m.
             let e : i + (k - o.run) ≡ o.start + k = omega (arith, o.here) in
             subst (λ (j : ℕ). get_or s j 0 ≡ 0 → ⊥) e (nz (k - o.run) (omega arith)));
@@ -165,7 +165,7 @@ module _ (s : List ℕ) (i place out a : ℕ) (d : List ℕ) (o : Open s i place
         → (b : ℕ) → i + 1 + b ≤ length s → Same s (i + 1) d' (out + 1) b → Open s (i + 1) out (out + 1) b d'
     shut h z few b hb next =
         let e : o.start + o.run + 1 ≡ i + 1 = omega (arith, o.here) in
-        let t = tail-cut s o.start o.run (run_at (λ l m. z)) (omega (arith, o.here)) (omega (arith, o.code)) in
+        let t = tail_cut s o.start o.run (run_at (λ l m. z)) (omega (arith, o.here)) (omega (arith, o.code)) in
         let g = group-then (encode (drop (i + 1) s)) (t ∙ ap (λ (j : ℕ). suc o.run ∷ (run ++ encode (drop j s))) e) in
         record {
           start = i + 1;
@@ -184,7 +184,7 @@ module _ (s : List ℕ) (i place out a : ℕ) (d : List ℕ) (o : Open s i place
     -- full, and more to come
     pub shut-full : i < length s → out ≡ place + 255 → Open s i out (out + 1) 0 d'
     shut-full h f =
-        let t = tail-full s o.start o.run (run_at (λ l m. absurd (omega (arith, o.code)))) (omega (arith, o.here)) (omega (arith, o.code)) in
+        let t = tail_full s o.start o.run (run_at (λ l m. absurd (omega (arith, o.code)))) (omega (arith, o.here)) (omega (arith, o.code)) in
         let g = group-then (encode (drop i s)) (t ∙ ap (λ (j : ℕ). suc o.run ∷ (run ++ encode (drop j s))) o.here) in
         record {
           start = i;
@@ -203,7 +203,7 @@ module _ (s : List ℕ) (i place out a : ℕ) (d : List ℕ) (o : Open s i place
     -- at the source's end
     pub shut-end : i ≡ length s → (out ≡ length (encode s)) × (take (length (encode s)) d' ≡ encode s)
     shut-end h =
-        let t = tail-end s o.start o.run (run_at (λ l m. absurd (omega (arith, h)))) (omega (arith, o.here, h)) in
+        let t = tail_end s o.start o.run (run_at (λ l m. absurd (omega (arith, h)))) (omega (arith, o.here, h)) in
         let g = group-then [] t in
         let e : out ≡ length (encode s) = omega (arith, g.1) in
         (e, ap (λ (j : ℕ). take j d') (sym e) ∙ sym (append-nil (take out d')) ∙ g.0)
@@ -225,8 +225,8 @@ module _ (s : List ℕ) (i place out a : ℕ) (d : List ℕ) (o : Open s i place
   pub bytes_same : Same s o.start patched (place + 1) (o.run + a)
   bytes_same k l = get_or-set_other d place (place + 1 + k) (out - place) 0 (λ w. omega (arith, w)) ∙ o.copied k l
 
-  pub close-zero : i < length s → get_or s i 0 ≡ 0 → out < place + 255 → Open s (i + 1) out (out + 1) (a - 1) patched
-  close-zero h z few =
+  pub close_zero : i < length s → get_or s i 0 ≡ 0 → out < place + 255 → Open s (i + 1) out (out + 1) (a - 1) patched
+  close_zero h z few =
       shut patched kept-code.long front_same code-there (λ k l. bytes_same k (omega arith)) h z few (a - 1) (omega (arith, o.within))
       (λ k l.
       let e : place + 1 + (o.run + 1 + k) ≡ out + 1 + k = omega (arith, o.code) in

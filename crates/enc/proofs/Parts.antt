@@ -48,8 +48,8 @@ module _ (d : List ℕ) (at : ℕ) (t : List ℕ) (n : ℕ) (hd : at + n ≤ len
       ∙ get_or-append (take at d) (take n t) 0 k (omega (arith, size))
       ∙ get_or-take at d k 0 h
 
-  pub paste-in : (k : ℕ) → k < n → get_or (paste d at t n) (at + k) 0 ≡ get_or t k 0
-  paste-in k h =
+  pub paste_in : (k : ℕ) → k < n → get_or (paste d at t n) (at + k) 0 ≡ get_or t k 0
+  paste_in k h =
       sym (get_or-take (at + n) (paste d at t n) (at + k) 0 (omega arith))
       ∙ ap (λ (l : List ℕ). get_or l (at + k) 0) head
       ∙ ap (λ (j : ℕ). get_or (take at d ++ take n t) (j + k) 0) (sym size)

@@ -18,10 +18,10 @@ use Rattle.enc.proofs.Steps.{InGroup, in_group, finished-moved, group-moved, one
 
 -- ---- the pieces joined
 
-pub move-joined : (e : Encoder) (p q : List ℕ) → move_all e (p ++ q) ≡ move_all (move_all e p) q
+pub move_joined : (e : Encoder) (p q : List ℕ) → move_all e (p ++ q) ≡ move_all (move_all e p) q
 unfolding move_all
-move-joined e [] q = refl
-move-joined e (b ∷ p) q = move-joined (moved e b) p q
+move_joined e [] q = refl
+move_joined e (b ∷ p) q = move_joined (moved e b) p q
 
 pub write-joined : (e : Encoder) (p q d : List ℕ) → write_all e (p ++ q) d ≡ write_all (move_all e p) q (write_all e p d)
 unfolding move_all write_all

@@ -15,12 +15,12 @@ use Rattle.enc.specs.Stream.{fresh, moved, move_all, write_all, finished_length,
 use Rattle.enc.specs.Sentences.{Call, push, finalize, Work, answer, called, calls, begun, fit_told, Streaming, Leaves, Alone, Sentences}
 use Rattle.enc.specs.declared.state.EncoderState.{EncoderState}
 use Rattle.enc.specs.declared.stream.Encoder.{Encoder}
-use Rattle.enc.proofs.Deciding.{by-eq, by-lt, refuted}
+use Rattle.enc.proofs.Deciding.{by_eq, by_lt, refuted}
 use Rattle.enc.proofs.Steps.{InGroup, Sound, sound, sound-push, group-moved}
-use Rattle.enc.proofs.Pieces.{Good, good, move-joined, write-joined, count-all}
-use Rattle.enc.proofs.Calls.{ready-fresh, finish-good}
+use Rattle.enc.proofs.Pieces.{Good, good, move_joined, write-joined, count-all}
+use Rattle.enc.proofs.Calls.{ready_fresh, finish-good}
 use Rattle.enc.proofs.Meaning.{finished-encode, closed-encode}
-use Rattle.enc.proofs.Joined.{fresh-good, next-moved, good-next, finished-next, dest-wrote, length-dest, rest-pushed, length-finished, rest-finished, closed-twice, alike_all}
+use Rattle.enc.proofs.Joined.{fresh-good, next-moved, good-next, finished-next, dest-wrote, length-dest, rest-pushed, length-finished, rest-finished, closed_twice, alike_all}
 use Rattle.enc.proofs.Unwritten.{open_pushed}
 
 -- ---- calls one after another
@@ -38,7 +38,7 @@ module _ (d : List ℕ) (w : Work) (h : Holds d w) where
       let a : List ℕ = if is_done (answer w p) then p else [] in
       let m = next-moved w.encoder p (length w.buffer) in
       record {
-        from-fresh = m ∙ ap (λ (e : Encoder). move_all e a) h.from-fresh ∙ sym (move-joined fresh w.accepted a);
+        from-fresh = m ∙ ap (λ (e : Encoder). move_all e a) h.from-fresh ∙ sym (move_joined fresh w.accepted a);
         fits = rw (length-dest w.encoder p w.buffer) (good-next w.encoder p (length w.buffer) h.fits);
         long = length-dest w.encoder p w.buffer ∙ h.long;
         alike =
@@ -55,7 +55,7 @@ module _ (d : List ℕ) (w : Work) (h : Holds d w) where
         fits = rw (length-finished w.encoder w.buffer) h.fits;
         long = length-finished w.encoder w.buffer ∙ h.long;
         alike =
-            ap (closed w.encoder) (sym (finish-good w.encoder w.buffer h.fits).1) ∙ closed-twice w.encoder w.buffer ∙ h.alike;
+            ap (closed w.encoder) (sym (finish-good w.encoder w.buffer h.fits).1) ∙ closed_twice w.encoder w.buffer ∙ h.alike;
       }
 
   accepts : (piece : List ℕ) → answer w piece ≡ fit_told (w.accepted ++ piece) (length d)
@@ -64,7 +64,7 @@ module _ (d : List ℕ) (w : Work) (h : Holds d w) where
       let c : w.encoder.count + length piece ≡ length (w.accepted ++ piece) =
       omega (arith, ap (λ (e : Encoder). e.count) h.from-fresh, count-all fresh w.accepted, length-append w.accepted piece) in
       let f : finished_length (move_all w.encoder piece) ≡ length (encode (w.accepted ++ piece)) =
-      ap finished_length (ap (λ (e : Encoder). move_all e piece) h.from-fresh ∙ sym (move-joined fresh w.accepted piece))
+      ap finished_length (ap (λ (e : Encoder). move_all e piece) h.from-fresh ∙ sym (move_joined fresh w.accepted piece))
       ∙ finished-encode (w.accepted ++ piece) in
       rw ((good w.encoder (length w.buffer)).none h.fits, c, f, h.long)
 
@@ -83,10 +83,10 @@ call-holds : (d : List ℕ) (w : Work) (c : Call) → Holds d w → Holds d (cal
 call-holds d w (push p) h = push-holds d w h p
 call-holds d w finalize h = finalize-holds d w h
 
-calls-hold : (d : List ℕ) (w : Work) (cs : List Call) → Holds d w → Holds d (calls w cs)
+calls_hold : (d : List ℕ) (w : Work) (cs : List Call) → Holds d w → Holds d (calls w cs)
 unfolding calls
-calls-hold d w [] h = h
-calls-hold d w (c ∷ cs) h = calls-hold d (called w c) cs (call-holds d w c h)
+calls_hold d w [] h = h
+calls_hold d w (c ∷ cs) h = calls_hold d (called w c) cs (call-holds d w c h)
 
 begins : (d : List ℕ) → 0 < length d → Holds d (begun fresh d)
 unfolding move_all write_all
@@ -121,7 +121,7 @@ alone : (s : EncoderState) (byte : ℕ) → state_bad s ≡ false → Alone s by
 alone s byte q =
     let next = (state_push s byte).next in
     record {
-      only = λ bad. by-lt last_place next.place (λ l. l)
+      only = λ bad. by_lt last_place next.place (λ l. l)
           (λ l. absurd (true≢false (sym bad ∙ (sound next).none record { group = next-group s byte ((sound s).holds q); low = l })));
       all = λ l. sym (refuted (sound next) (λ g. omega (arith, g.low)));
     }
@@ -132,8 +132,8 @@ pub sentences : Sentences
 unfolding start_told fit_told encode encode_in
 sentences =
     record {
-      streaming = λ d e q cs. let r = ready-fresh (length d) e q in rw r.1 (streams d _ (calls-hold d (begun fresh d) cs (begins d r.0)));
-      starts = λ room. by-eq room 0 (λ z. rw z refl) (λ nz. rw (ne_eqb room 0 nz, le-ltb room 1 (omega arith)));
+      streaming = λ d e q cs. let r = ready_fresh (length d) e q in rw r.1 (streams d _ (calls_hold d (begun fresh d) cs (begins d r.0)));
+      starts = λ room. by_eq room 0 (λ z. rw z refl) (λ nz. rw (ne_eqb room 0 nz, le-ltb room 1 (omega arith)));
       refuses = refl;
       unwritten = open_pushed;
       leaves = leaves;

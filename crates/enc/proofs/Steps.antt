@@ -14,7 +14,7 @@ use Rattle.enc.specs.declared.state.EncoderState.{EncoderState}
 use Rattle.enc.specs.declared.state.PushResult.TheVariants.{AddSingle, ModifyFromStartAndSkip, ModifyFromStartAndPushAndSkip}
 use Rattle.enc.specs.declared.state.StatePushed.{StatePushed}
 use Rattle.enc.specs.declared.stream.Encoder.{Encoder}
-use Rattle.enc.proofs.Deciding.{by-eq, neither, Refutes}
+use Rattle.enc.proofs.Deciding.{by_eq, neither, Refutes}
 
 -- ---- which states are accepted
 
@@ -55,8 +55,8 @@ pub by-step : (P : StatePushed → Type 0) (s : EncoderState) (b : ℕ)
     → P (step s b)
 unfolding step
 by-step P s b skip full add =
-    by-eq b 0 (λ z. rw (eq-eqb b 0 z) (skip z))
-    (λ nz. by-eq s.code 254
+    by_eq b 0 (λ z. rw (eq-eqb b 0 z) (skip z))
+    (λ nz. by_eq s.code 254
     (λ f. rw (ne_eqb b 0 nz, eq-eqb s.code 254 f) (full nz f))
     (λ nf. rw (ne_eqb b 0 nz, ne_eqb s.code 254 nf) (add nz nf)))
 
@@ -72,17 +72,17 @@ module _ (e : Encoder) (b : ℕ) where
   abbrev after : EncoderState → Bool → Encoder
   after s full = record { state = s; full = full; count = e.count + 1 }
 
-  pub moved-zero : b ≡ 0 → after (opened (e.state.place + e.state.code) 1) false ≡ moved e b
+  pub moved_zero : b ≡ 0 → after (opened (e.state.place + e.state.code) 1) false ≡ moved e b
   unfolding moved step
-  moved-zero z = rw (eq-eqb b 0 z)
+  moved_zero z = rw (eq-eqb b 0 z)
 
   pub moved-full : (b ≡ 0 → ⊥) → e.state.code ≡ 254 → after (opened (e.state.place + 255) 1) true ≡ moved e b
   unfolding moved step
   moved-full nz f = rw (ne_eqb b 0 nz, eq-eqb e.state.code 254 f)
 
-  pub moved-add : (b ≡ 0 → ⊥) → (e.state.code ≡ 254 → ⊥) → after (opened e.state.place (e.state.code + 1)) false ≡ moved e b
+  pub moved_add : (b ≡ 0 → ⊥) → (e.state.code ≡ 254 → ⊥) → after (opened e.state.place (e.state.code + 1)) false ≡ moved e b
   unfolding moved step
-  moved-add nz nf = rw (ne_eqb b 0 nz, ne_eqb e.state.code 254 nf)
+  moved_add nz nf = rw (ne_eqb b 0 nz, ne_eqb e.state.code 254 nf)
 
   -- a byte adds one to the place and the code together, whatever it is
   pub finished-moved : finished_length (moved e b) ≡ e.state.place + e.state.code + 1

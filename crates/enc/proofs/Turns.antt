@@ -11,11 +11,11 @@ use lib.ListN.{length, get_or, drop, set, replicate, get_or-replicate, length-dr
 use lib.Seq.{paste, length-paste, paste-zero, paste-suc, get_or-drop}
 use borrow.Author.Tests.{eq-eqb, ne_eqb}
 use Rattle.blocks.specs.Blocks.{is_clear, is_all, copied, filled}
-use Rattle.blocks.proofs.Blocks.{clear-says, all-says, copied-fits, filled-fits}
+use Rattle.blocks.proofs.Blocks.{clear_says, all-says, copied-fits, filled-fits}
 use Rattle.enc.specs.Fast.{Open, Kept, Ends}
-use Rattle.enc.proofs.Deciding.{by-lt, by-eq}
-use Rattle.enc.proofs.Parts.{paste-in, paste-take}
-use Rattle.enc.proofs.Opens.{kept_refl, kept_on, same-open, room, kept-paste, kept-code, changed, ahead, pass, shut, close-zero, close-full, inside}
+use Rattle.enc.proofs.Deciding.{by_lt, by_eq}
+use Rattle.enc.proofs.Parts.{paste_in, paste-take}
+use Rattle.enc.proofs.Opens.{kept_refl, kept_on, same-open, room, kept-paste, kept-code, changed, ahead, pass, shut, close_zero, close-full, inside}
 
 -- ---- one byte, not zero
 
@@ -49,14 +49,14 @@ pub record Passing (s : List ℕ) (from : ℕ) (d₀ : List ℕ) (at place stop 
   pub kept : Kept s d₀ d
 
 module _ (s : List ℕ) (from : ℕ) (d₀ : List ℕ) (at place stop : ℕ) where
-  pub passing-start : from ≤ stop → stop ≤ length s → at + (stop - from) ≤ place + 255 → (stop < length s → at + (stop - from) ≡ place + 255)
+  pub passing_start : from ≤ stop → stop ≤ length s → at + (stop - from) ≤ place + 255 → (stop < length s → at + (stop - from) ≡ place + 255)
       → Open s from place at 0 d₀ → Passing s from d₀ at place stop d₀ from at
-  passing-start h within few full o =
+  passing_start h within few full o =
       record { after = omega arith; before = h; there = omega arith; within = within; few = few; full = full; opened = o; kept = kept_refl s d₀ }
 
   module _ (d : List ℕ) (i out : ℕ) (w : Passing s from d₀ at place stop d i out) where
-    pub passing-on : i < stop → (get_or s i 0 ≡ 0 → ⊥) → Passing s from d₀ at place stop (set d out (get_or s i 0)) (i + 1) (out + 1)
-    passing-on h nz =
+    pub passing_on : i < stop → (get_or s i 0 ≡ 0 → ⊥) → Passing s from d₀ at place stop (set d out (get_or s i 0)) (i + 1) (out + 1)
+    passing_on h nz =
         let l : i < length s = omega (arith, w.within) in
         record {
           after = omega (arith, w.after);
@@ -70,14 +70,14 @@ module _ (s : List ℕ) (from : ℕ) (d₀ : List ℕ) (at place stop : ℕ) whe
         }
 
     -- it stops at a zero, at the source's end or with a full group
-    pub passing-end : (i < stop → get_or s i 0 ≡ 0)
+    pub passing_end : (i < stop → get_or s i 0 ≡ 0)
         → (Open s i place (at + (i - from)) 0 d × Ends s from i place at) × Kept s d₀ d
-    passing-end z = (
+    passing_end z = (
       (
         same-open w.opened refl refl w.there refl,
         record {
           after = w.after;
-          stops = λ l m. by-lt i stop z (λ k. absurd (omega (arith, w.full (omega (arith, w.before)), w.before)));
+          stops = λ l m. by_lt i stop z (λ k. absurd (omega (arith, w.full (omega (arith, w.before)), w.before)));
         },
       ),
       w.kept,
@@ -108,7 +108,7 @@ module _ (s : List ℕ) (i place out a : ℕ) (d : List ℕ) (o : Open s i place
   with_ones = paste coded out (replicate 16 1) 16
 
   closed : Open s (i + 1) out (out + 1) (a - 1) coded
-  closed = close-zero s i place out a d o (omega arith) (subst (λ (j : ℕ). get_or s j 0 ≡ 0) (omega arith) (z 0 (omega arith))) few
+  closed = close_zero s i place out a d o (omega arith) (subst (λ (j : ℕ). get_or s j 0 ≡ 0) (omega arith) (z 0 (omega arith))) few
 
   enough : out + 16 ≤ length coded
   enough = omega (arith, room s i place out a d o, closed.fits)
@@ -124,7 +124,7 @@ module _ (s : List ℕ) (i place out a : ℕ) (d : List ℕ) (o : Open s i place
       same-open
       (ones s (i + 1) out with_ones reopened 15 (omega arith)
       (λ k l. subst (λ (j : ℕ). get_or s j 0 ≡ 0) (omega arith) (z (k + 1) (omega arith)))
-      (λ k l. paste-in coded out (replicate 16 1) 16 enough (omega arith) k (omega arith) ∙ get_or-replicate 16 k 1 0 (omega arith)))
+      (λ k l. paste_in coded out (replicate 16 1) 16 enough (omega arith) k (omega arith) ∙ get_or-replicate 16 k 1 0 (omega arith)))
       (omega arith) refl (omega arith) refl
 
   pub zeros-kept : Kept s d with_ones
@@ -145,9 +145,9 @@ module _ (s : List ℕ) (i place out : ℕ) (d : List ℕ) (o : Open s i place o
   block-kept = rw pasted (kept-paste s d out (drop i s) 16 (omega (arith, room s i place out 0 d o)) o.fits (omega (arith, length-drop i s)))
 
 -- no zero among them
-pub block-clear : (s : List ℕ) (i place out : ℕ) (d : List ℕ) → Open s i place out 16 d → out + 16 ≤ place + 254 → is_clear s i ≡ true
+pub block_clear : (s : List ℕ) (i place out : ℕ) (d : List ℕ) → Open s i place out 16 d → out + 16 ≤ place + 254 → is_clear s i ≡ true
     → Open s (i + 16) place (out + 16) 0 d
-block-clear s i place out d o few c = pass s i place out 16 d o 16 (omega arith) (clear-says s i c).1 (omega arith)
+block_clear s i place out d o few c = pass s i place out 16 d o 16 (omega arith) (clear_says s i c).1 (omega arith)
 
 -- nothing but zeros
 pub block-zeros : (s : List ℕ) (i place out : ℕ) (d : List ℕ) → Open s i place out 16 d → out + 16 ≤ place + 254 → is_all 0 s i ≡ true
@@ -164,13 +164,13 @@ pub mark-turn : (s : List ℕ) (i place out k : ℕ) (d : List ℕ) → k < 16 �
     → d' ≡ (if eqb (get_or s (i + k) 0) 0 then set d place (out + k - place) else d)
     → (out + 16 ≤ p' + 254) × Open s (i + (k + 1)) p' (out + (k + 1)) (16 - (k + 1)) d' × Kept s d d'
 mark-turn s i place out k d h few o p' d' qp qd =
-    by-eq (get_or s (i + k) 0) 0
+    by_eq (get_or s (i + k) 0) 0
     (λ z.
     let ep : p' ≡ out + k = simp (eq-eqb _ _ z) at qp in
     let ed : d' ≡ set d place (out + k - place) = simp (eq-eqb _ _ z) at qd in
     rw (ep, ed) (
       omega (arith, o.code),
-      same-open (close-zero s (i + k) place (out + k) (16 - k) d o (omega (arith, o.within)) z (omega arith)) (omega arith) refl (omega arith) (omega arith),
+      same-open (close_zero s (i + k) place (out + k) (16 - k) d o (omega (arith, o.within)) z (omega arith)) (omega arith) refl (omega arith) (omega arith),
       kept-code s (i + k) place (out + k) (16 - k) d o,
     ))
     (λ nz.
@@ -191,6 +191,6 @@ pub group-turn : (s : List ℕ) (i place out : ℕ) (d : List ℕ) → Open s i 
     → (i' : ℕ) → (out < place + 255 → i' ≡ i + 1) → (place + 255 ≤ out → i' ≡ i)
     → Open s i' out (out + 1) 0 (set d place (out - place))
 group-turn s i place out d o h z i' cut full =
-    by-lt out (place + 255)
-    (λ l. same-open (close-zero s i place out 0 d o h (z l) l) (sym (cut l)) refl refl (omega arith))
+    by_lt out (place + 255)
+    (λ l. same-open (close_zero s i place out 0 d o h (z l) l) (sym (cut l)) refl refl (omega arith))
     (λ l. same-open (close-full s i place out 0 d o h (omega (arith, o.code, o.few))) (sym (full l)) refl refl refl)

@@ -12,7 +12,7 @@ use Rattle.enc.specs.Stream.{fresh, started, told_started, start_told, is_bad, p
 use Rattle.enc.specs.declared.stream.Encoder.{Encoder}
 use Rattle.enc.specs.declared.stream.Started.{Started}
 use Rattle.enc.specs.declared.stream.Started.TheVariants as start
-use Rattle.enc.proofs.Calls.{ready-fresh}
+use Rattle.enc.proofs.Calls.{ready_fresh}
 use Rattle.enc.specs.contracts.stream.Started.{the_type}
 use Rattle.held.specs.Held.{over, pushed}
 
@@ -23,8 +23,8 @@ told-refused (start.Ready e) h = absurd (miss (1 ∷ []) 0 tt h)
 told-refused start.DestBufTooSmall h = refl
 
 module _ (room : ℕ) (s : Started) (p : s ≡ started room) (t : told_started s ≡ start_told room) where
-  pub start-ready : (e : Encoder) → s ≡ start.Ready e → (done 0 0 ≡ start_told room) × (e ≡ fresh)
-  start-ready e q = (sym (ap told_started q) ∙ t, (ready-fresh room e (sym p ∙ q)).1)
+  pub start_ready : (e : Encoder) → s ≡ start.Ready e → (done 0 0 ≡ start_told room) × (e ≡ fresh)
+  start_ready e q = (sym (ap told_started q) ∙ t, (ready_fresh room e (sym p ∙ q)).1)
 
   pub start-refused : OneOf (1 ∷ []) (tag_of the_type s) → dest_buf_too_small ≡ start_told room
   start-refused h = told-refused s h ∙ t

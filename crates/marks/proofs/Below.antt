@@ -16,12 +16,12 @@ from ws n m h = ap (count_below (marked ws)) {x = m} {y = n + (m - n)} (omega ar
 
 -- ---- Bounds
 
-pub below-le : (ws : List ℕ) (n : ℕ) → marked_below ws n ≤ n
+pub below_le : (ws : List ℕ) (n : ℕ) → marked_below ws n ≤ n
 unfolding marked_below
-below-le ws n = omega (arith, count-both (marked ws) n)
+below_le ws n = omega (arith, count-both (marked ws) n)
 
-pub below-mono : (ws : List ℕ) (n m : ℕ) → n ≤ m → marked_below ws n ≤ marked_below ws m
-below-mono ws n m h = omega (arith, from ws n m h)
+pub below_mono : (ws : List ℕ) (n m : ℕ) → n ≤ m → marked_below ws n ≤ marked_below ws m
+below_mono ws n m h = omega (arith, from ws n m h)
 
 pub below_none : (n : ℕ) → marked_below no_marks n ≡ 0
 unfolding marked_below
@@ -45,4 +45,4 @@ from-none ws n m h none =
 -- There are no marks past 4,096.
 pub below-past : (ws : List ℕ) (n : ℕ) → length ws ≡ 64 → 4096 ≤ n → marked_below ws n ≡ marked_below ws 4096
 below-past ws n l h =
-    omega (arith, below-mono ws 4096 n h, from-none ws 4096 n h (λ j a b. marked-out ws j l a))
+    omega (arith, below_mono ws 4096 n h, from-none ws 4096 n h (λ j a b. marked-out ws j l a))

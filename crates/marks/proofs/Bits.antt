@@ -17,29 +17,29 @@ use Rattle.marks.proofs.Counts.{count_same}
 -- ---- Shift and mask
 
 -- `(w >> s) & 1 == 1`
-pub shift-mask : (w s : ℕ) → eqb (bit_and (w / 2 ^ s) 1) 1 ≡ bit_at w s
+pub shift_mask : (w s : ℕ) → eqb (bit_and (w / 2 ^ s) 1) 1 ≡ bit_at w s
 unfolding bit_at
-shift-mask w s = rw (and_mask (w / 2 ^ s) 1)
+shift_mask w s = rw (and_mask (w / 2 ^ s) 1)
 
 -- `1 << s`, in 64 bits.
 pub one_shifted : (s : ℕ) → s < 64 → (1 * 2 ^ s) % 2 ^ 64 ≡ 2 ^ s
 one_shifted s h = shl_exact {a = 1} 1 s 64 (omega arith) (omega arith) ∙ one-mul (2 ^ s)
 
 -- The lowest bit at 1.
-or-one : (q : ℕ) → bit_or q 1 ≡ cond (eqb (q % 2) 1) q (q + 1)
-or-one q = rw (or_step q 1, or_zero_r (q / 2)) (low (eqb (q % 2) 1) refl)
+or_one : (q : ℕ) → bit_or q 1 ≡ cond (eqb (q % 2) 1) q (q + 1)
+or_one q = rw (or_step q 1, or_zero_r (q / 2)) (low (eqb (q % 2) 1) refl)
   where
     low : (b : Bool) → eqb (q % 2) 1 ≡ b → q / 2 * 2 + max (q % 2) 1 ≡ cond b q (q + 1)
     low true e = omega (arith, eqb-true (q % 2) 1 e)
     low false e = omega (arith, eqb-false (q % 2) 1 e)
 
 -- `w | (1 << s)`
-pub or-bit : (w s : ℕ) → bit_or w (2 ^ s) ≡ with_bit w s
+pub or_bit : (w s : ℕ) → bit_or w (2 ^ s) ≡ with_bit w s
 unfolding with_bit bit_at
-or-bit w s =
+or_bit w s =
     ap₂ bit_or (sym (split w s)) (sym (add-zero (1 * 2 ^ s) ∙ one-mul (2 ^ s)))
     ∙ or_block s (w / 2 ^ s) 1 (w % 2 ^ s) 0 (mod-lt w (pow_pos s)) (pow_pos s)
-    ∙ ap₂ (λ (x y : ℕ). x * 2 ^ s + y) (or-one (w / 2 ^ s)) (or_zero_r (w % 2 ^ s))
+    ∙ ap₂ (λ (x y : ℕ). x * 2 ^ s + y) (or_one (w / 2 ^ s)) (or_zero_r (w % 2 ^ s))
     ∙ join (eqb (w / 2 ^ s % 2) 1)
   where
     join : (b : Bool) → cond b (w / 2 ^ s) (w / 2 ^ s + 1) * 2 ^ s + w % 2 ^ s ≡ cond b w (w + 2 ^ s)
@@ -48,46 +48,46 @@ or-bit w s =
 
 -- ---- Setting a bit
 
-or-digit : (x y : ℕ) → x < 2 → y < 2 → eqb (bit_or x y) 1 ≡ (eqb x 1 || eqb y 1)
-or-digit zero zero h k = refl
-or-digit zero (suc zero) h k = refl
-or-digit (suc zero) zero h k = refl
-or-digit (suc zero) (suc zero) h k = refl
-or-digit zero (suc (suc y)) h k = absurd (omega arith)
-or-digit (suc zero) (suc (suc y)) h k = absurd (omega arith)
-or-digit (suc (suc x)) y h k = absurd (omega arith)
+or_digit : (x y : ℕ) → x < 2 → y < 2 → eqb (bit_or x y) 1 ≡ (eqb x 1 || eqb y 1)
+or_digit zero zero h k = refl
+or_digit zero (suc zero) h k = refl
+or_digit (suc zero) zero h k = refl
+or_digit (suc zero) (suc zero) h k = refl
+or_digit zero (suc (suc y)) h k = absurd (omega arith)
+or_digit (suc zero) (suc (suc y)) h k = absurd (omega arith)
+or_digit (suc (suc x)) y h k = absurd (omega arith)
 
 bit-or : (w v t : ℕ) → bit_at (bit_or w v) t ≡ (bit_at w t || bit_at v t)
 unfolding bit_at
 bit-or w v t =
     rw (or_shr w v t, or_mod (w / 2 ^ t) (v / 2 ^ t) 1)
-    (or-digit (w / 2 ^ t % 2) (v / 2 ^ t % 2) (omega arith) (omega arith))
+    (or_digit (w / 2 ^ t % 2) (v / 2 ^ t % 2) (omega arith) (omega arith))
 
 -- The bits of `1 << s`.
-power-here : (s : ℕ) → bit_at (2 ^ s) s ≡ true
+power_here : (s : ℕ) → bit_at (2 ^ s) s ≡ true
 unfolding bit_at
-power-here s = rw (div_self (pow_pos s))
+power_here s = rw (div_self (pow_pos s))
 
-power-above : (s t : ℕ) → s < t → bit_at (2 ^ s) t ≡ false
+power_above : (s t : ℕ) → s < t → bit_at (2 ^ s) t ≡ false
 unfolding bit_at
-power-above s t h = rw (div-eq_of_lt (pow-lt h))
+power_above s t h = rw (div-eq_of_lt (pow-lt h))
 
 power_below : (d t : ℕ) → bit_at (2 ^ (suc d + t)) t ≡ false
 unfolding bit_at
 power_below d t = rw (pow-add 2 (suc d) t, shl-shr (2 ^ suc d) t, pow-suc 2 d, mul-mod_left (2 ^ d) 2)
 
-power-other : (s t : ℕ) → t ≢ s → bit_at (2 ^ s) t ≡ false
-power-other s t d =
+power_other : (s t : ℕ) → t ≢ s → bit_at (2 ^ s) t ≡ false
+power_other s t d =
     elim (dec_lt s t) [
-      | yes h ↦ power-above s t h
+      | yes h ↦ power_above s t h
       | no h ↦ ap (λ (x : ℕ). bit_at (2 ^ x) t) {x = s} {y = suc (s - t - 1) + t} (omega arith) ∙ power_below (s - t - 1) t
     ]
 
 pub bit-set : (w s : ℕ) → bit_at (with_bit w s) s ≡ true
-bit-set w s = rw (← or-bit w s, bit-or, power-here, or-true)
+bit-set w s = rw (← or_bit w s, bit-or, power_here, or-true)
 
 pub bit-other : (w s t : ℕ) → t ≢ s → bit_at (with_bit w s) t ≡ bit_at w t
-bit-other w s t d = rw (← or-bit w s, bit-or, power-other s t d, or-false)
+bit-other w s t d = rw (← or_bit w s, bit-or, power_other s t d, or-false)
 
 pub zero_bit : (s : ℕ) → bit_at 0 s ≡ false
 unfolding bit_at

@@ -18,18 +18,18 @@ use Rattle.batch.specs.declared.Close.TheVariants.{Not, Taken}
 use Rattle.wire.specs.declared.Wire.{Wire}
 use Rattle.numbers.specs.Numbers.{bit, state_numbers, close_numbers, head_of, numbers_of, state_in, close_in, wire_in, same, names, unnamed, read_of, written_to, read_back}
 use Rattle.numbers.specs.Helpers.{Fits}
-use Rattle.numbers.proofs.Same.{same-equal, same-itself}
+use Rattle.numbers.proofs.Same.{same_equal, same-itself}
 
 take_all : (l : List ℕ) (n : ℕ) → length l ≡ n → take n l ≡ l
 take_all l n e = ap (take n) (sym (append-nil l)) ∙ take_at l [] n e
 
 -- ---- the fields, each by itself
 
-pub head-is : (w : Wire) (b kind left taken count total : ℕ) → b ≡ bit w.decoder.skip → kind ∷ left ∷ [] ≡ state_numbers w.decoder.state
+pub head_is : (w : Wire) (b kind left taken count total : ℕ) → b ≡ bit w.decoder.skip → kind ∷ left ∷ [] ≡ state_numbers w.decoder.state
     → taken ∷ count ∷ total ∷ [] ≡ close_numbers w.receiver.close
     → w.decoder.place ∷ b ∷ kind ∷ left ∷ w.receiver.total ∷ taken ∷ count ∷ total ∷ w.receiver.slots ∷ w.receiver.batch ∷ [] ≡ head_of w
 unfolding head_of
-head-is w b kind left taken count total eb es ec =
+head_is w b kind left taken count total eb es ec =
     ap (λ (x : ℕ). w.decoder.place ∷ x ∷ kind ∷ left ∷ w.receiver.total ∷ taken ∷ count ∷ total ∷ w.receiver.slots ∷ w.receiver.batch ∷ []) eb
     ∙ ap₂ (λ (x y : List ℕ). w.decoder.place ∷ bit w.decoder.skip ∷ x ++ w.receiver.total ∷ y ++ w.receiver.slots ∷ w.receiver.batch ∷ []) es ec
 
@@ -37,14 +37,14 @@ pub marks-all : (zeros ns : List ℕ) → length zeros ≡ 64 → length ns ≡ 
 marks-all zeros ns z h =
     ap₂ ◌++◌ (take_all (drop 10 ns) 64 (length-drop 10 ns ∙ omega arith)) (drop_of_length-le zeros {i = 64} (omega arith)) ∙ append-nil (drop 10 ns)
 
-pub wire-is : (ns : List ℕ) (s : DecoderState) (marks : List ℕ) (c : Close) → s ≡ state_in (get_or ns 2 0) (get_or ns 3 0) → marks ≡ drop 10 ns
+pub wire_is : (ns : List ℕ) (s : DecoderState) (marks : List ℕ) (c : Close) → s ≡ state_in (get_or ns 2 0) (get_or ns 3 0) → marks ≡ drop 10 ns
     → c ≡ close_in (get_or ns 5 0) (get_or ns 6 0) (get_or ns 7 0)
     → record {
       decoder = record { place = get_or ns 0 0; skip = not (eqb (get_or ns 1 0) 0); state = s };
       receiver = record { marks = marks; total = get_or ns 4 0 % 4_294_967_296; close = c; slots = get_or ns 8 0; batch = get_or ns 9 0 % 65_536 };
     } ≡ wire_in ns
 unfolding wire_in
-wire-is ns s marks c es em ec = rw (es, em, ec) refl
+wire_is ns s marks c es em ec = rw (es, em, ec) refl
 
 -- ---- what the calls leave
 
@@ -62,13 +62,13 @@ module _ (ns : List ℕ) (long : length ns ≡ 74) (w : Wire) (is : w ≡ wire_i
   unfolding read_of names
   read-other e = rw (eq-eqb (length ns) 74 long, ← is, ← head, e) refl
 
-pub read-named-is : (ns : List ℕ) → (read_of ns).named ≡ names ns
+pub read-named_is : (ns : List ℕ) → (read_of ns).named ≡ names ns
 unfolding read_of
-read-named-is ns = by_bool (names ns) (λ q. rw q refl) (λ q. rw q refl)
+read-named_is ns = by_bool (names ns) (λ q. rw q refl) (λ q. rw q refl)
 
-pub read-wire-is : (ns : List ℕ) → names ns ≡ true → (read_of ns).wire ≡ wire_in ns
+pub read_wire_is : (ns : List ℕ) → names ns ≡ true → (read_of ns).wire ≡ wire_in ns
 unfolding read_of
-read-wire-is ns e = rw e refl
+read_wire_is ns e = rw e refl
 
 -- written
 head-long : (w : Wire) → length (head_of w) ≡ 10
@@ -110,32 +110,32 @@ module _ (ns : List ℕ) (w : Wire) (long : length ns ≡ 74) (h : List ℕ) (he
 
 -- ---- numbers that name a state are its own
 
-pub named-own : (ns : List ℕ) → names ns ≡ true → numbers_of (wire_in ns) ≡ ns
+pub named_own : (ns : List ℕ) → names ns ≡ true → numbers_of (wire_in ns) ≡ ns
 unfolding names numbers_of wire_in
-named-own ns e =
+named_own ns e =
     by_bool (eqb (length ns) 74)
-    (λ q. ap (λ (h : List ℕ). h ++ drop 10 ns) (sym (same-equal (take 10 ns) (head_of (wire_in ns)) (rw q at e))) ∙ take-append-drop 10 ns)
+    (λ q. ap (λ (h : List ℕ). h ++ drop 10 ns) (sym (same_equal (take 10 ns) (head_of (wire_in ns)) (rw q at e))) ∙ take-append-drop 10 ns)
     (λ q. absurd (true≢false (sym (rw q at e))))
 
 -- ---- and a state's numbers name it
 
-skip-back : (b : Bool) → not (eqb (bit b) 0) ≡ b
-skip-back true = refl
-skip-back false = refl
+skip_back : (b : Bool) → not (eqb (bit b) 0) ≡ b
+skip_back true = refl
+skip_back false = refl
 
-state-pair : (s : DecoderState) → get_or (state_numbers s) 0 0 ∷ get_or (state_numbers s) 1 0 ∷ [] ≡ state_numbers s
-state-pair Idle = refl
-state-pair (Grab k) = refl
-state-pair (GrabChain k) = refl
+state_pair : (s : DecoderState) → get_or (state_numbers s) 0 0 ∷ get_or (state_numbers s) 1 0 ∷ [] ≡ state_numbers s
+state_pair Idle = refl
+state_pair (Grab k) = refl
+state_pair (GrabChain k) = refl
 
 state-back : (s : DecoderState) → get_or (state_numbers s) 1 0 < 256 → state_in (get_or (state_numbers s) 0 0) (get_or (state_numbers s) 1 0) ≡ s
 state-back Idle h = refl
 state-back (Grab k) h = ap Grab (omega arith)
 state-back (GrabChain k) h = ap GrabChain (omega arith)
 
-close-three : (c : Close) → get_or (close_numbers c) 0 0 ∷ get_or (close_numbers c) 1 0 ∷ get_or (close_numbers c) 2 0 ∷ [] ≡ close_numbers c
-close-three Not = refl
-close-three (Taken n t) = refl
+close_three : (c : Close) → get_or (close_numbers c) 0 0 ∷ get_or (close_numbers c) 1 0 ∷ get_or (close_numbers c) 2 0 ∷ [] ≡ close_numbers c
+close_three Not = refl
+close_three (Taken n t) = refl
 
 close-back : (c : Close) → get_or (close_numbers c) 2 0 < 4_294_967_296
     → close_in (get_or (close_numbers c) 0 0) (get_or (close_numbers c) 1 0) (get_or (close_numbers c) 2 0) ≡ c
@@ -148,19 +148,19 @@ own_back w f =
     let t : w.receiver.total % 4_294_967_296 ≡ w.receiver.total = omega (arith, f.total) in
     let b : w.receiver.batch % 65_536 ≡ w.receiver.batch = omega (arith, f.batch) in
     ap (λ (h : List ℕ). wire_in (h ++ w.receiver.marks))
-    (sym (head-is w (bit w.decoder.skip) _ _ _ _ _ refl (state-pair w.decoder.state) (close-three w.receiver.close)))
-    ∙ rw (skip-back w.decoder.skip, state-back w.decoder.state f.left, close-back w.receiver.close f.closed, t, b) refl
+    (sym (head_is w (bit w.decoder.skip) _ _ _ _ _ refl (state_pair w.decoder.state) (close_three w.receiver.close)))
+    ∙ rw (skip_back w.decoder.skip, state-back w.decoder.state f.left, close-back w.receiver.close f.closed, t, b) refl
 
-pub own-named : (w : Wire) → Fits w → length w.receiver.marks ≡ 64 → names (numbers_of w) ≡ true
+pub own_named : (w : Wire) → Fits w → length w.receiver.marks ≡ 64 → names (numbers_of w) ≡ true
 unfolding names numbers_of
-own-named w f words =
+own_named w f words =
     let long : length (head_of w ++ w.receiver.marks) ≡ 74 = length-append (head_of w) w.receiver.marks ∙ omega (arith, head-long w, words) in
     rw (eq-eqb (length (head_of w ++ w.receiver.marks)) 74 long, take_at (head_of w) w.receiver.marks 10 (head-long w), own_back w f) (same-itself (head_of w))
 
 -- what `write` leaves is read back as the states, from a list of that many
 pub own_read : (w : Wire) → Fits w → length w.receiver.marks ≡ 64 → read_of (numbers_of w) ≡ record { named = true; wire = w }
 unfolding read_of
-own_read w f words = rw (own-named w f words, own_back w f)
+own_read w f words = rw (own_named w f words, own_back w f)
 
 pub written_read : (ns : List ℕ) (w : Wire) → Fits w → length w.receiver.marks ≡ 64 → length ns ≡ 74 → read_of (written_to ns w) ≡ read_back ns w
 unfolding written_to read_back

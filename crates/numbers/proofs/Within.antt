@@ -13,8 +13,8 @@ use Rattle.dec.specs.declared.state.DecoderState.{DecoderState}
 use Rattle.dec.specs.declared.state.DecoderState.TheVariants.{Idle, Grab, GrabChain}
 use Rattle.dec.specs.declared.stream.CobsDecoder.{CobsDecoder}
 use Rattle.dec.proofs.Cases.{by_bool}
-use Rattle.dec.proofs.Pieces.{push-piece, push_dest-piece}
-use Rattle.dec.proofs.Wide.{left, piece-left, piece_bytes}
+use Rattle.dec.proofs.Pieces.{push_piece, push_dest_piece}
+use Rattle.dec.proofs.Wide.{left, piece_left, piece_bytes}
 use Rattle.batch.specs.State.{is_bad}
 use Rattle.batch.specs.Frame.{accept_next}
 use Rattle.batch.specs.declared.Receiver.{Receiver}
@@ -90,15 +90,15 @@ module _ (w : Wire) (h : Within w) (buffer table piece : List ℕ) (b : Bytes bu
       (λ e.
       let fine = either (bad w.decoder room) (is_bad w.receiver (length table)) e in
       let o : Outcome = piece_outcome w.decoder room piece in
-      let l = piece-left piece w.decoder room h.left p in
+      let l = piece_left piece w.decoder room h.left p in
       let m : List ℕ = piece_dest w.decoder room piece buffer in
       let bs : Bytes m = piece_bytes piece w.decoder room buffer p b in
       let g = good w.receiver (length table) h.words fine.1 in
       record {
         states =
-            rw (e, push-piece w.decoder room fine.0 piece, push_dest-piece w.decoder piece buffer fine.0)
+            rw (e, push_piece w.decoder room fine.0 piece, push_dest_piece w.decoder piece buffer fine.0)
             (by_bool (is_done o.answer)
             (λ d. rw d (accept-within w h table (take o.answer.first m) (bytes_take m o.answer.first bs) g o.next l))
             (λ d. rw d (record { left = l; total = h.total; closed = h.closed; batch = h.batch; words = h.words })));
-        bytes = rw (e, push_dest-piece w.decoder piece buffer fine.0) bs;
+        bytes = rw (e, push_dest_piece w.decoder piece buffer fine.0) bs;
       })

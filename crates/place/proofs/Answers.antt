@@ -7,7 +7,7 @@ use Rattle.place.specs.Calls.{place_told}
 use Rattle.place.specs.declared.place.InPlace.{InPlace}
 use Rattle.place.specs.declared.place.InPlace.TheVariants as place
 
-pub not-size : (a : InPlace) → ((n : ℕ) → a ≡ place.Size n → ⊥) → is_done (place_told a) ≡ false
-not-size (place.Size n) h = absurd (h n refl)
-not-size place.EmptyFrame h = refl
-not-size (place.InvalidFrame decoded) h = refl
+pub not_size : (a : InPlace) → ((n : ℕ) → a ≡ place.Size n → ⊥) → is_done (place_told a) ≡ false
+not_size (place.Size n) h = absurd (h n refl)
+not_size place.EmptyFrame h = refl
+not_size (place.InvalidFrame decoded) h = refl

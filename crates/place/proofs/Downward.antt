@@ -16,16 +16,16 @@ use Rattle.cobs.proofs.Bodies.{length-body}
 use Rattle.cobs.proofs.Over.{over-fits}
 use Rattle.dec.proofs.Cases.{drop-next}
 use Rattle.place.proofs.Copies.{drop-later, part-take}
-use Rattle.place.proofs.Groups.{body-take, body-positive, one-zero, Reached, reached-none, at-short, at_last, at_more}
+use Rattle.place.proofs.Groups.{body-take, body-positive, one_zero, Reached, reached-none, at-short, at_last, at_more}
 
 -- The told answer and the memory are those of decoding m₀ in place.
 abbrev Placed : (m₀ : List ℕ) (t : Told) (m : List ℕ) → Type 0
 Placed m₀ t m = (t ≡ in_place_told m₀) × (m ≡ in_place_dest m₀)
 
-pub place-empty : (m : List ℕ) → length m ≡ 0 → Placed m empty_frame m
+pub place_empty : (m : List ℕ) → length m ≡ 0 → Placed m empty_frame m
 unfolding in_place_told in_place_dest read read_in
-place-empty [] e = (refl, refl)
-place-empty (b ∷ m) e = absurd (omega arith)
+place_empty [] e = (refl, refl)
+place_empty (b ∷ m) e = absurd (omega arith)
 
 pub place_none : (m : List ℕ) → (length m ≡ 0 → ⊥) → length (body m) ≡ 0 → Placed m (invalid_frame 0 0) m
 unfolding in_place_told in_place_dest read read_in
@@ -66,19 +66,19 @@ module _ (m₀ m : List ℕ) (from to : ℕ) (h : Head m₀ m from to) where
   fits : length (body m₀) ≤ length m
   fits = omega (arith, length-body m₀, h.long)
 
-  not-empty : eqb (length m₀) 0 ≡ false
-  not-empty = ne_eqb (length m₀) 0 (λ e. omega (arith, length-body m₀, inside))
+  not_empty : eqb (length m₀) 0 ≡ false
+  not_empty = ne_eqb (length m₀) 0 (λ e. omega (arith, length-body m₀, inside))
 
   -- the bytes that are not read are the body's
-  part-is : (j n : ℕ) → to ≤ j → j + n ≤ length (body m₀) → take n (drop j m) ≡ take n (drop j (body m₀))
-  part-is j n le hi =
+  part_is : (j n : ℕ) → to ≤ j → j + n ≤ length (body m₀) → take n (drop j m) ≡ take n (drop j (body m₀))
+  part_is j n le hi =
       ap (take n) (drop-later m m₀ to j h.rest le)
       ∙ sym (part-take j n (length (body m₀)) m₀ hi)
       ∙ ap (λ (x : List ℕ). take n (drop j x)) (body-take m₀)
 
   code_is : get_or m from 0 ≡ get_or (body m₀) from 0
   code_is =
-      let e : take 1 (drop from m) ≡ take 1 (drop from (body m₀)) = part-is from 1 h.behind (omega (arith, inside)) in
+      let e : take 1 (drop from m) ≡ take 1 (drop from (body m₀)) = part_is from 1 h.behind (omega (arith, inside)) in
       let q : take 1 (get_or m from 0 ∷ drop (from + 1) m) ≡ take 1 (get_or (body m₀) from 0 ∷ drop (from + 1) (body m₀)) =
       sym (ap (take 1) (drop-next m from (omega (arith, inside, fits)))) ∙ e ∙ ap (take 1) (drop-next (body m₀) from inside) in
       cc
@@ -92,7 +92,7 @@ module _ (m₀ m : List ℕ) (from to : ℕ) (h : Head m₀ m from to) where
   place_short s =
       let e = at-short (body m₀) from (take to m) h.reached (get_or m from 0) code_is code-positive s in
       let d = settled m₀ m to (read (body m₀)).groups (sym e.0) (omega (arith, h.behind, inside, fits)) h.rest h.long in
-      (rw (not-empty, e.1) (ap (λ (k : ℕ). invalid_frame k 0) d.0), d.1)
+      (rw (not_empty, e.1) (ap (λ (k : ℕ). invalid_frame k 0) d.0), d.1)
 
   -- a whole group, copied
   module _ (n : ℕ) (en : n ≡ get_or m from 0 - 1) (le : from + 1 + n ≤ length (body m₀)) (m₁ : List ℕ) (e₁ : m₁ ≡ paste m to (drop (from + 1) m) n) where
@@ -100,7 +100,7 @@ module _ (m₀ m : List ℕ) (from to : ℕ) (h : Head m₀ m from to) where
     enough = simp length-drop (omega (arith, fits))
 
     part : take n (drop (from + 1) m) ≡ take n (drop (from + 1) (body m₀))
-    part = part-is (from + 1) n (omega (arith, h.behind)) le
+    part = part_is (from + 1) n (omega (arith, h.behind)) le
 
     long₁ : length m₁ ≡ length m
     long₁ = rw e₁ (length-paste m to (drop (from + 1) m) n (omega (arith, h.behind, fits)) enough)
@@ -119,7 +119,7 @@ module _ (m₀ m : List ℕ) (from to : ℕ) (h : Head m₀ m from to) where
     place-last q =
         let e = at_last (body m₀) from (take to m) h.reached (get_or m from 0) code_is code-positive n en q in
         let d = settled m₀ m₁ (to + n) (read (body m₀)).groups (take₁ ∙ sym e.0) (omega (arith, h.behind, fits, long₁)) drop₁ (long₁ ∙ h.long) in
-        (rw (not-empty, e.1) (ap (λ (k : ℕ). done k (length (body m₀))) d.0), d.1)
+        (rw (not_empty, e.1) (ap (λ (k : ℕ). done k (length (body m₀))) d.0), d.1)
 
     -- or with another after it, and its zero
     module _ (m₂ : List ℕ) (e₂ : m₂ ≡ paste m₁ (to + n) (zero_after (get_or m from 0)) (length (zero_after (get_or m from 0)))) where
@@ -128,7 +128,7 @@ module _ (m₀ m : List ℕ) (from to : ℕ) (h : Head m₀ m from to) where
 
       pub place-more : from + 1 + n < length (body m₀) → (to' : ℕ) → to' ≡ to + n + length z → Head m₀ m₂ (from + 1 + n) to'
       place-more lt to' et =
-          let l₂ : length m₂ ≡ length m₁ = rw e₂ (length-paste m₁ (to + n) z (length z) (omega (arith, h.behind, fits, one-zero (get_or m from 0), long₁)) (le_refl (length z))) in
+          let l₂ : length m₂ ≡ length m₁ = rw e₂ (length-paste m₁ (to + n) z (length z) (omega (arith, h.behind, fits, one_zero (get_or m from 0), long₁)) (le_refl (length z))) in
           let t₂ : take (to + n + length z) m₂ ≡ take to m ++ (take n (drop (from + 1) (body m₀)) ++ z) =
           rw e₂ (take-paste m₁ (to + n) z (length z) (omega (arith, h.behind, fits, long₁)) (le_refl (length z)))
           ∙ ap (λ (x : List ℕ). take (to + n) m₁ ++ x) (take_all (length z) z (le_refl (length z)))
@@ -140,7 +140,7 @@ module _ (m₀ m : List ℕ) (from to : ℕ) (h : Head m₀ m from to) where
           record {
             reached =
                 rw (et, t₂) (at_more (body m₀) from (take to m) h.reached (get_or m from 0) code_is code-positive n en lt);
-            behind = omega (arith, one-zero (get_or m from 0), h.behind);
+            behind = omega (arith, one_zero (get_or m from 0), h.behind);
             long = l₂ ∙ long₁ ∙ h.long;
             rest = rw et d₂;
           }

@@ -12,7 +12,7 @@ use lib.Seq.{drop-drop, length-take-le, take_all}
 use borrow.Author.Tests.{ltb-true, ltb-false}
 use Rattle.cobs.specs.Code.{body, Reading, cut, ended, onto, zero_after, read, masked}
 use Rattle.cobs.proofs.Reading.{read_short, read-last, read_more}
-use Rattle.cobs.proofs.Sentinel.{xor-twice}
+use Rattle.cobs.proofs.Sentinel.{xor_twice}
 use Rattle.place.specs.Helpers.{group_of}
 use Rattle.place.specs.declared.place.Group.TheVariants.{Whole, Short}
 use Rattle.dec.proofs.Cases.{by_bool, drop-next}
@@ -42,21 +42,21 @@ module _ (sentinel : ℕ) (buf : List ℕ) (i : ℕ) (p : Passed sentinel buf i)
     end_later n =
         let x : ℕ = get_or buf i 0 in
         let s : List ℕ = masked sentinel (drop (i + 1) buf) in
-        let m : bit_xor (get_or buf i 0) sentinel ≡ 0 → ⊥ = λ e. n (sym (xor-twice (get_or buf i 0) sentinel) ∙ ap (λ (y : ℕ). bit_xor y sentinel) e ∙ xor_zero_l sentinel) in
+        let m : bit_xor (get_or buf i 0) sentinel ≡ 0 → ⊥ = λ e. n (sym (xor_twice (get_or buf i 0) sentinel) ∙ ap (λ (y : ℕ). bit_xor y sentinel) e ∙ xor_zero_l sentinel) in
         let q : length (body (masked sentinel (drop i buf))) ≡ suc (length (body (masked sentinel (drop (i + 1) buf)))) = rest ∙ ap length (body-first (bit_xor x sentinel) s m) in
         omega (arith, q)
 
-  pub end-nowhere : length buf ≤ i → i ≡ length (body (masked sentinel buf))
-  end-nowhere h =
+  pub end_nowhere : length buf ≤ i → i ≡ length (body (masked sentinel buf))
+  end_nowhere h =
       let q : length (body (masked sentinel (drop i buf))) ≡ 0 = rw (drop_of_length-le buf h) in
       omega (arith, q)
 
-masked-zero : (s : List ℕ) → masked 0 s ≡ s
-masked-zero [] = refl
-masked-zero (b ∷ s) = rw (xor_zero_r b, masked-zero s)
+masked_zero : (s : List ℕ) → masked 0 s ≡ s
+masked_zero [] = refl
+masked_zero (b ∷ s) = rw (xor_zero_r b, masked_zero s)
 
-pub end-zero : (s : List ℕ) (n : ℕ) → n ≡ length (body (masked 0 s)) → n ≡ length (body s)
-end-zero s n e = e ∙ ap (λ (t : List ℕ). length (body t)) (masked-zero s)
+pub end_zero : (s : List ℕ) (n : ℕ) → n ≡ length (body (masked 0 s)) → n ≡ length (body s)
+end_zero s n e = e ∙ ap (λ (t : List ℕ). length (body t)) (masked_zero s)
 
 -- the body stands at the front
 pub body-take : (s : List ℕ) → take (length (body s)) s ≡ body s
@@ -84,8 +84,8 @@ says-short c left e =
 
 -- ---- group by group
 
-pub one-zero : (c : ℕ) → length (zero_after c) ≤ 1
-one-zero c = by_bool (eqb c 255) (λ e. rw e zero-le) (λ e. rw e (le_refl 1))
+pub one_zero : (c : ℕ) → length (zero_after c) ≤ 1
+one_zero c = by_bool (eqb c 255) (λ e. rw e zero-le) (λ e. rw e (le_refl 1))
 
 -- The groups of the body b before `from`, with their zeros, gave these bytes.
 pub record Reached (b : List ℕ) (from : ℕ) (got : List ℕ) : Type 0 where

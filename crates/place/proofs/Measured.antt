@@ -13,15 +13,15 @@ use borrow.Author.Tests.{lt-ltb, le-ltb, ne_eqb}
 use Rattle.cobs.specs.Code.{body, read, zero_after, over, masked}
 use Rattle.cobs.specs.Answers.{Told, is_done, done, empty_frame, invalid_frame, target_buf_too_small}
 use Rattle.cobs.specs.OneShot.{leading, meant, decoded, decode_dest, in_place_told, size_alone, with_sentinel_told, with_sentinel_dest}
-use Rattle.cobs.proofs.Reading.{by_codes, read_short, read-last, read_more, read-empty}
+use Rattle.cobs.proofs.Reading.{by_codes, read_short, read-last, read_more, read_empty}
 use Rattle.cobs.proofs.Bodies.{length-body}
 use Rattle.cobs.proofs.Told.{unlike}
 use Rattle.cobs.proofs.Sentinel.{length-masked}
 use Rattle.blocks.specs.Blocks.{masked_front}
 use Rattle.dec.specs.Stream.{new, push_dest}
 use Rattle.dec.proofs.Cases.{by_bool}
-use Rattle.place.proofs.Groups.{body-positive, one-zero, Reached, reached-none, at-short, at_last, at_more}
-use Rattle.place.proofs.Downward.{place-empty, place_none}
+use Rattle.place.proofs.Groups.{body-positive, one_zero, Reached, reached-none, at-short, at_last, at_more}
+use Rattle.place.proofs.Downward.{place_empty, place_none}
 use Rattle.dec.proofs.Sources.{push-memory}
 
 -- ---- a masked list
@@ -101,13 +101,13 @@ module _ (p : List ℕ) (from to : ℕ) (m : Measured p from to) where
             got = m.got ++ (take n (drop (from + 1) (body p)) ++ zero_after c);
             reached = at_more (body p) from m.got m.reached c code_is measured-code n en lt;
             size = omega (arith, m.size, more-long, ez, length-append m.got (part ++ zero_after c), length-append part (zero_after c));
-            behind = omega (arith, m.behind, ez, one-zero c);
+            behind = omega (arith, m.behind, ez, one_zero c);
           }
 
 -- no body to measure
 module _ (s : ℕ) (src : List ℕ) where
-  pub measured-empty : length src ≡ 0 → empty_frame ≡ size_alone (in_place_told (masked s src))
-  measured-empty e = ap size_alone (place-empty (masked s src) (length-masked s src ∙ e)).0
+  pub measured_empty : length src ≡ 0 → empty_frame ≡ size_alone (in_place_told (masked s src))
+  measured_empty e = ap size_alone (place_empty (masked s src) (length-masked s src ∙ e)).0
 
   pub measured-nothing : (length src ≡ 0 → ⊥) → length (body (masked s src)) ≡ 0 → invalid_frame 0 0 ≡ size_alone (in_place_told (masked s src))
   measured-nothing n e = ap size_alone (place_none (masked s src) (λ q. n (sym (length-masked s src) ∙ q)) e).0
@@ -124,25 +124,25 @@ module _ (s : ℕ) (src : List ℕ) where
 whole-short : (b : List ℕ) → (read b).whole ≡ true → (read b).short ≡ []
 whole-short =
     by_codes (λ b. (read b).whole ≡ true → (read b).short ≡ [])
-    (λ e. absurd (false≢true (rw read-empty at e)))
+    (λ e. absurd (false≢true (rw read_empty at e)))
     (λ c s h e. absurd (false≢true (rw (read_short c s h) at e)))
     (λ c r h e. rw (read-last c r h))
     (λ c r h d s ih e. rw (read_more c r h d s) (ih (rw (read_more c r h d s) at e)))
 
-no-leading : (p : List ℕ) → 0 < length (body p) → leading p ≡ 0
-no-leading [] h = absurd (not-suc-le-zero h)
-no-leading (zero ∷ p) h = absurd (not-suc-le-zero h)
-no-leading (suc b ∷ p) h = refl
+no_leading : (p : List ℕ) → 0 < length (body p) → leading p ≡ 0
+no_leading [] h = absurd (not-suc-le-zero h)
+no_leading (zero ∷ p) h = absurd (not-suc-le-zero h)
+no_leading (suc b ∷ p) h = refl
 
 some-whole : (b : List ℕ) → (read b).whole ≡ true → 0 < length b
-some-whole [] e = absurd (false≢true (rw read-empty at e))
+some-whole [] e = absurd (false≢true (rw read_empty at e))
 some-whole (c ∷ b) e = suc-le-suc zero-le
 
 -- so the streamed bytes are those of the whole groups
 groups-memory : (p d : List ℕ) → (read (body p)).whole ≡ true → push_dest new p d ≡ over (read (body p)).groups d
 unfolding decode_dest decoded meant
 groups-memory p d w =
-    push-memory p d ∙ rw (no-leading p (some-whole (body p) w), whole-short (body p) w, append-nil (read (body p)).groups)
+    push-memory p d ∙ rw (no_leading p (some-whole (body p) w), whole-short (body p) w, append-nil (read (body p)).groups)
 
 -- ---- the ways through the call
 

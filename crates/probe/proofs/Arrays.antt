@@ -30,5 +30,5 @@ four-put a b c d (w ∷ x ∷ []) = refl
 four-put a b c d (w ∷ x ∷ y ∷ []) = refl
 four-put a b c d (w ∷ x ∷ y ∷ z ∷ l) = refl
 
-pub put-way : (a b c d : ℕ) (l k m n o : List ℕ) → k ≡ set l 0 a → m ≡ set k 1 b → n ≡ set m 2 c → o ≡ set n 3 d → o ≡ over (a ∷ b ∷ c ∷ d ∷ []) l
-put-way a b c d l k m n o p q r s = simp (s, r, q, p, four-put a b c d l)
+pub put_way : (a b c d : ℕ) (l k m n o : List ℕ) → k ≡ set l 0 a → m ≡ set k 1 b → n ≡ set m 2 c → o ≡ set n 3 d → o ≡ over (a ∷ b ∷ c ∷ d ∷ []) l
+put_way a b c d l k m n o p q r s = simp (s, r, q, p, four-put a b c d l)

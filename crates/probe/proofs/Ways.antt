@@ -34,9 +34,9 @@ decoder-put d f t u l k p q r s = simp (s, p, q, r)
 -- ---- the encoder's start
 
 module _ (numbers : List ℕ) (room : ℕ) where
-  pub start-nowhere : (length numbers ≡ 4 → ⊥) → (tell 6 0 0 ≡ start_told numbers room) × (numbers ≡ start_numbers numbers room)
+  pub start_nowhere : (length numbers ≡ 4 → ⊥) → (tell 6 0 0 ≡ start_told numbers room) × (numbers ≡ start_numbers numbers room)
   unfolding start_told start_numbers
-  start-nowhere h = (simp (ne_eqb _ _ h), simp (ne_eqb _ _ h))
+  start_nowhere h = (simp (ne_eqb _ _ h), simp (ne_eqb _ _ h))
 
   pub start-refused : (s : Started) → length numbers ≡ 4 → s ≡ started room → s ≡ start.DestBufTooSmall
       → (tell 4 0 0 ≡ start_told numbers room) × (numbers ≡ start_numbers numbers room)
@@ -47,10 +47,10 @@ module _ (numbers : List ℕ) (room : ℕ) where
       go true e = (simp (eq-eqb _ _ h, e), simp (eq-eqb _ _ h, e))
       go false e = let z : ◌≡◌ {A = ℕ} 0 1 = cc in absurd (omega arith)
 
-  pub start-ready : (s : Started) (e : Encoder) (k : List ℕ) → length numbers ≡ 4 → s ≡ started room → s ≡ start.Ready e → k ≡ over (encoder_numbers e) numbers
+  pub start_ready : (s : Started) (e : Encoder) (k : List ℕ) → length numbers ≡ 4 → s ≡ started room → s ≡ start.Ready e → k ≡ over (encoder_numbers e) numbers
       → (tell 0 0 0 ≡ start_told numbers room) × (k ≡ start_numbers numbers room)
   unfolding start_told start_numbers started
-  start-ready s e k h p q r = go (eqb room 0) refl
+  start_ready s e k h p q r = go (eqb room 0) refl
     where
       go : (b : Bool) → eqb room 0 ≡ b → (tell 0 0 0 ≡ start_told numbers room) × (k ≡ start_numbers numbers room)
       go true t = let z : ◌≡◌ {A = ℕ} 0 1 = cc in absurd (omega arith)

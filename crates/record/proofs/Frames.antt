@@ -12,7 +12,7 @@ use Rattle.record.specs.declared.ReadAnswer.{ReadAnswer}
 use Rattle.record.specs.declared.ReadAnswer.TheVariants as read
 use Rattle.record.specs.declared.frame.Checked.TheVariants.{AllGood, BadRecord}
 use Rattle.record.specs.contracts.ReadAnswer.{the_type}
-use Rattle.record.proofs.Round.{read_is, read-not}
+use Rattle.record.proofs.Round.{read_is, read_not}
 
 -- ---- the length
 
@@ -85,7 +85,7 @@ module _ (m : List ℕ) (at : ℕ) (c : Left m at) (h : at < length m) (l : leng
       }
 
   pub left-bad : OneOf (1 ∷ []) (tag_of the_type a) → told_checked (BadRecord (at / 16)) ≡ records_told 16 (length m / 16) 0 m
-  left-bad o = sym (c.told ∙ turn m at h c.even l ∙ rw (read-not (drop at m) (sym ea ∙ bad a o)))
+  left-bad o = sym (c.told ∙ turn m at h c.even l ∙ rw (read_not (drop at m) (sym ea ∙ bad a o)))
     where
       bad : (a : ReadAnswer) → OneOf (1 ∷ []) (tag_of the_type a) → a ≡ read.BadRecord
       bad (read.Good r) o = absurd (miss (1 ∷ []) 0 tt o)

@@ -8,7 +8,7 @@ use Rattle.cobs.specs.Code.{encode, over}
 use Rattle.cobs.specs.Answers.{Told, done, dest_buf_too_small, bad_length, longest, is_done}
 use Rattle.cobs.specs.OneShot.{plain, finished, encode_told, encode_dest}
 use Rattle.cobs.proofs.Told.{unlike}
-use Rattle.cobs.proofs.Over.{over-fits, over-snoc}
+use Rattle.cobs.proofs.Over.{over-fits, over_snoc}
 use Rattle.enc.specs.OneShot.{told}
 use Rattle.enc.specs.declared.oneshot.Encoded.{Encoded}
 use Rattle.enc.specs.declared.oneshot.Encoded.TheVariants as encoded
@@ -22,9 +22,9 @@ module _ (m : List ℕ) (b : Bool) (eb : b ≡ is_bad_length 16 240 (length m)) 
   unfolding message_told
   told-length h = simp (← eb, h)
 
-  pub told-records : b ≡ false → {t : Told} → t ≡ records_told 16 (length m / 16) 0 m → message_told 16 240 m ≡ t
+  pub told_records : b ≡ false → {t : Told} → t ≡ records_told 16 (length m / 16) 0 m → message_told 16 240 m ≡ t
   unfolding message_told
-  told-records h e = simp (← eb, h) (sym e)
+  told_records h e = simp (← eb, h) (sym e)
 
 -- ---- the answer and the buffer
 
@@ -36,29 +36,29 @@ unfolding framed
 framed-length m = length-append (encode m) (0 ∷ [])
 
 module _ (m d : List ℕ) where
-  pub writes-refused : (t : Told) → message_told 16 240 m ≡ t → is_done t ≡ false → Writes m d t d
+  pub writes_refused : (t : Told) → message_told 16 240 m ≡ t → is_done t ≡ false → Writes m d t d
   unfolding frame_told frame_dest
-  writes-refused t e h = (rw (e, h), rw (e, h, h))
+  writes_refused t e h = (rw (e, h), rw (e, h, h))
 
   module _ (ok : message_told 16 240 m ≡ done 0 0) where
-    pub writes-small : length d < length (encode m) + 1 → Writes m d dest_buf_too_small d
+    pub writes_small : length d < length (encode m) + 1 → Writes m d dest_buf_too_small d
     unfolding frame_told frame_dest
-    writes-small h =
+    writes_small h =
         let s = lt-ltb (length d) (length (framed m)) (omega (arith, framed-length m)) in
         (rw (ok, s), rw (ok, s))
 
-    pub writes-fits : length (encode m) + 1 ≤ length d → Writes m d (done (length (encode m) + 1) 0) (over (framed m) d)
+    pub writes_fits : length (encode m) + 1 ≤ length d → Writes m d (done (length (encode m) + 1) 0) (over (framed m) d)
     unfolding frame_told frame_dest
-    writes-fits h =
+    writes_fits h =
         let s = le-ltb (length d) (length (framed m)) (omega (arith, framed-length m)) in
         (rw (ok, s, framed-length m), rw (ok, s))
 
 -- ---- the encoding, into all but the last byte
 
-not-length : (e : Encoded) → OneOf (1 ∷ 2 ∷ []) (tag_of the_type e) → is_done (told e) ≡ false
-not-length (encoded.Length n) o = absurd (miss (1 ∷ 2 ∷ []) 0 tt o)
-not-length encoded.TooLong o = refl
-not-length encoded.DestBufTooSmall o = refl
+not_length : (e : Encoded) → OneOf (1 ∷ 2 ∷ []) (tag_of the_type e) → is_done (told e) ≡ false
+not_length (encoded.Length n) o = absurd (miss (1 ∷ 2 ∷ []) 0 tt o)
+not_length encoded.TooLong o = refl
+not_length encoded.DestBufTooSmall o = refl
 
 module _ (m d : List ℕ) (short : length m ≤ 240) (some : 0 < length d) where
   abbrev part : List ℕ
@@ -111,19 +111,19 @@ module _ (m d : List ℕ) (short : length m ≤ 240) (some : 0 < length d) where
               let h = ltb-true (length d - 1) (length (encode m)) q in
               let back : u ++ drop (length d - 1) d ≡ d =
               ap (λ (x : List ℕ). x ++ drop (length d - 1) d) (eu ∙ dest-small h) ∙ take-append-drop (length d - 1) d in
-              let w = writes-small m d ok (omega arith) in
+              let w = writes_small m d ok (omega arith) in
               (w.0, back ∙ w.1)
           go false q =
               let told-done : told e ≡ done (length (encode m)) 0 = ee ∙ told_is ∙ rw q in
-              absurd (true≢false (sym (ap is_done told-done) ∙ not-length e o))
+              absurd (true≢false (sym (ap is_done told-done) ∙ not_length e o))
 
-      pub writes-frame : (n : ℕ) → e ≡ encoded.Length n → Writes m d (done (n + 1) 0) (set (u ++ drop (length d - 1) d) n 0)
+      pub writes_frame : (n : ℕ) → e ≡ encoded.Length n → Writes m d (done (n + 1) 0) (set (u ++ drop (length d - 1) d) n 0)
       unfolding framed
-      writes-frame n q =
+      writes_frame n q =
           let h = fits n (sym (ap told q) ∙ ee) in
-          let w = writes-fits m d ok (omega arith) in
+          let w = writes_fits m d ok (omega arith) in
           let laid : u ++ drop (length d - 1) d ≡ over (encode m) d =
           ap (λ (x : List ℕ). x ++ drop (length d - 1) d) (eu ∙ dest-fits h.1) ∙ over-part (encode m) h.1 in (
             ap (λ (x : ℕ). done (x + 1) 0) h.0 ∙ w.0,
-            ap₂ (λ (x : List ℕ) (k : ℕ). set x k 0) laid h.0 ∙ over-snoc (encode m) 0 d ∙ w.1,
+            ap₂ (λ (x : List ℕ) (k : ℕ). set x k 0) laid h.0 ∙ over_snoc (encode m) 0 d ∙ w.1,
           )

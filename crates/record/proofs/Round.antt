@@ -92,14 +92,14 @@ unfolding fields_for record_in
 record-fields (particle b i x y z w hb hi hx hy hz hw) = simp (signed-bits x hx, signed-bits y hy, signed-bits z hz)
 record-fields (close b n t hb hn ht) = refl
 
-was-valid : (ok : Bool) → (if ok then done 0 0 else bad_record 0) ≡ done 0 0 → ok ≡ true
-was-valid true e = refl
-was-valid false e = absurd (unlike e (omega arith))
+was_valid : (ok : Bool) → (if ok then done 0 0 else bad_record 0) ≡ done 0 0 → ok ≡ true
+was_valid true e = refl
+was_valid false e = absurd (unlike e (omega arith))
 
 pub read-written : (r : Record) (t : List ℕ) → Holds r → write_told 0 r ≡ done 0 0 → read_of 0 (written_bytes 0 r ++ t) ≡ Good r
 unfolding write_told written_bytes is_record read_of
 read-written r t h e =
-    let ok : is_valid 0 (fields_for 0 r) ≡ true = was-valid (is_valid 0 (fields_for 0 r)) e in
+    let ok : is_valid 0 (fields_for 0 r) ≡ true = was_valid (is_valid 0 (fields_for 0 r)) e in
     rw (ok, whole-bytes (fields_for 0 r) t, fields-bytes (fields_for 0 r) t (small h), ok, record-fields h)
 
 -- ---- from the bytes to a record and back
@@ -113,9 +113,9 @@ read_is s r e = go (is_record 0 s) e
     go true e = refl
     go false e = let z : ◌≡◌ {A = ℕ} 0 1 = cc in absurd (omega arith)
 
-pub read-not : (s : List ℕ) → read_of 0 s ≡ BadRecord → is_record 0 s ≡ false
+pub read_not : (s : List ℕ) → read_of 0 s ≡ BadRecord → is_record 0 s ≡ false
 unfolding read_of
-read-not s e = go (is_record 0 s) e
+read_not s e = go (is_record 0 s) e
   where
     go : (ok : Bool) → (if ok then Good (record_in (fields_of s)) else BadRecord) ≡ BadRecord → ok ≡ false
     go true e = let z : ◌≡◌ {A = ℕ} 0 1 = cc in absurd (omega arith)

@@ -32,8 +32,8 @@ module _ (x : ℤ) (f : SFits w16 x) where
   as16 : to_z w16 (of_z w16 x) ≡ x
   as16 = to_z-of_z {w = w16} {z = x} f
 
-  pub cast-wide : SFits w32 (to_z w16 (of_z w16 x))
-  cast-wide = subst (SFits w32) (sym as16) (wider x f)
+  pub cast_wide : SFits w32 (to_z w16 (of_z w16 x))
+  cast_wide = subst (SFits w32) (sym as16) (wider x f)
 
   module _ (e : lt_z (to_z w16 (of_z w16 x)) (pos 0) ≡ true) where
     sum : to_z w32 (of_z w32 (to_z w16 (of_z w16 x))) +ℤ pos 65536 ≡ pos (bits x)
@@ -48,9 +48,9 @@ module _ (x : ℤ) (f : SFits w16 x) where
     back : to_z w32 (of_z w32 (to_z w32 (of_z w32 (to_z w16 (of_z w16 x))) +ℤ pos 65536)) ≡ pos (bits x)
     back = let h = bits_small x f.sfits in ap (λ (y : ℤ). to_z w32 (of_z w32 y)) sum ∙ to_z_pos w32 {n = bits x} (omega arith)
 
-    pub sum-cast : T (non_neg (to_z w32 (of_z w32 (to_z w32 (of_z w32 (to_z w16 (of_z w16 x))) +ℤ pos 65536))))
+    pub sum_cast : T (non_neg (to_z w32 (of_z w32 (to_z w32 (of_z w32 (to_z w16 (of_z w16 x))) +ℤ pos 65536))))
         × Fits w16 (nat_abs (to_z w32 (of_z w32 (to_z w32 (of_z w32 (to_z w16 (of_z w16 x))) +ℤ pos 65536))))
-    sum-cast = casts _ (bits x) (bits_small x f.sfits) back
+    sum_cast = casts _ (bits x) (bits_small x f.sfits) back
 
     pub sum_is : nat_abs (to_z w32 (of_z w32 (to_z w32 (of_z w32 (to_z w16 (of_z w16 x))) +ℤ pos 65536))) ≡ bits x
     sum_is = ap nat_abs back
@@ -59,11 +59,11 @@ module _ (x : ℤ) (f : SFits w16 x) where
     same : to_z w16 (of_z w16 x) ≡ pos (bits x)
     same = as16 ∙ not_negative x (sym (ap (λ (y : ℤ). lt_z y (pos 0)) as16) ∙ e)
 
-    pub same-cast : T (non_neg (to_z w16 (of_z w16 x))) × Fits w16 (nat_abs (to_z w16 (of_z w16 x)))
-    same-cast = casts _ (bits x) (bits_small x f.sfits) same
+    pub same_cast : T (non_neg (to_z w16 (of_z w16 x))) × Fits w16 (nat_abs (to_z w16 (of_z w16 x)))
+    same_cast = casts _ (bits x) (bits_small x f.sfits) same
 
-    pub same-is : nat_abs (to_z w16 (of_z w16 x)) ≡ bits x
-    same-is = ap nat_abs same
+    pub same_is : nat_abs (to_z w16 (of_z w16 x)) ≡ bits x
+    same_is = ap nat_abs same
 
 -- ---- from the bits to the number
 
@@ -73,8 +73,8 @@ signed_low n h = rw (lt-leb 32768 n h)
 pub signed_high : (n : ℕ) → 32768 ≤ n → signed n ≡ negsuc (65536 - suc n)
 signed_high n h = rw (le-leb 32768 n h)
 
-pub low-is : (n : ℕ) → n < 32768 → to_z w16 n ≡ signed n
-low-is n h = to_z_pos w16 {n = n} h ∙ sym (signed_low n h)
+pub low_is : (n : ℕ) → n < 32768 → to_z w16 n ≡ signed n
+low_is n h = to_z_pos w16 {n = n} h ∙ sym (signed_low n h)
 
 module _ (n : ℕ) (f : n < 2 ^ 16) (h : 32768 ≤ n) where
   less : to_z w32 n -ℤ pos 65536 ≡ negsuc (65536 - suc n)
@@ -91,8 +91,8 @@ module _ (n : ℕ) (f : n < 2 ^ 16) (h : 32768 ≤ n) where
   narrow : SFits w16 (negsuc (65536 - suc n))
   narrow = record { sfits = omega arith }
 
-  pub less-cast : SFits w16 (to_z w32 (of_z w32 (to_z w32 n -ℤ pos 65536)))
-  less-cast = subst (SFits w16) (sym wide) narrow
+  pub less_cast : SFits w16 (to_z w32 (of_z w32 (to_z w32 n -ℤ pos 65536)))
+  less_cast = subst (SFits w16) (sym wide) narrow
 
-  pub less-is : to_z w16 (of_z w16 (to_z w32 (of_z w32 (to_z w32 n -ℤ pos 65536)))) ≡ signed n
-  less-is = ap (λ (y : ℤ). to_z w16 (of_z w16 y)) wide ∙ to_z-of_z {w = w16} {z = negsuc (65536 - suc n)} narrow ∙ sym (signed_high n h)
+  pub less_is : to_z w16 (of_z w16 (to_z w32 (of_z w32 (to_z w32 n -ℤ pos 65536)))) ≡ signed n
+  less_is = ap (λ (y : ℤ). to_z w16 (of_z w16 y)) wide ∙ to_z-of_z {w = w16} {z = negsuc (65536 - suc n)} narrow ∙ sym (signed_high n h)

@@ -18,9 +18,9 @@ unfolding is_valid
 valid-particle f b k = simp (eq-eqb _ _ b, k, or-false)
 
 module _ (f : Fields) (b : f.board ≡ 0) (k : f.kind ≡ 1 → ⊥) where
-  pub valid-kind : (f.kind ≡ 2 → ⊥) → false ≡ is_valid 0 f
+  pub valid_kind : (f.kind ≡ 2 → ⊥) → false ≡ is_valid 0 f
   unfolding is_valid
-  valid-kind n = simp (eq-eqb _ _ b, ne_eqb _ _ k, ne_eqb _ _ n)
+  valid_kind n = simp (eq-eqb _ _ b, ne_eqb _ _ k, ne_eqb _ _ n)
 
   module _ (k2 : f.kind ≡ 2) where
     counted : (leb f.index 4096 && (eqb f.x 0 && (eqb f.y 0 && eqb f.z 0))) ≡ is_valid 0 f

@@ -60,11 +60,11 @@ fields r batch index weight a b c x y z e ea eb ec = simp (e, ea, eb, ec)
 held : (x : ℤ) {a : ℕ} → mag x < 32768 → a ≡ bits (to_z w16 (of_z w16 x)) → a ≡ bits x
 held x h e = e ∙ ap bits (to_z-of_z {w = w16} {z = x} (record { sfits = h }))
 
-pub for-particle : (r : Record) (batch index weight a b c : ℕ) (x y z : ℤ) → r ≡ Particle batch index x y z weight
+pub for_particle : (r : Record) (batch index weight a b c : ℕ) (x y z : ℤ) → r ≡ Particle batch index x y z weight
     → mag x < 32768 → mag y < 32768 → mag z < 32768
     → a ≡ bits (to_z w16 (of_z w16 x)) → b ≡ bits (to_z w16 (of_z w16 y)) → c ≡ bits (to_z w16 (of_z w16 z))
     → ◌≡◌ {A = Fields} (record { batch = batch; index = index; x = a; y = b; z = c; kind = 1; board = 0; weight = weight }) (fields_for 0 r)
-for-particle r batch index weight a b c x y z e fx fy fz ea eb ec =
+for_particle r batch index weight a b c x y z e fx fy fz ea eb ec =
     fields r batch index weight a b c x y z e (held x fx ea) (held y fy eb) (held z fz ec)
 
 -- ---- the record in some fields

@@ -18,10 +18,10 @@ use Rattle.batch.specs.declared.Answer.TheVariants.{BadState, BadLength, BadReco
 use Rattle.batch.specs.declared.judge.Effect.{Effect}
 use Rattle.batch.specs.declared.judge.Verdict.{Verdict}
 use Rattle.batch.specs.declared.judge.Verdict.TheVariants.{Take, Refuse}
-use Rattle.batch.proofs.Good.{Good, not-bad}
+use Rattle.batch.proofs.Good.{Good, not_bad}
 use Rattle.batch.proofs.Kept.{accept-length, accept-good}
 use Rattle.batch.proofs.Effects.{stored-length}
-use Rattle.batch.proofs.Sentences.{stands_from, refused-unchanged}
+use Rattle.batch.proofs.Sentences.{stands_from, refused_unchanged}
 use Rattle.dec.proofs.Cases.{by_bool}
 use Rattle.wire.specs.Receive.{End, accepting}
 
@@ -32,7 +32,7 @@ Fine e = Good e.receiver (length e.table)
 
 pub fit : (e : End) → Fine e → accepting.is_bad e ≡ false
 unfolding Fine
-fit e g = not-bad e.receiver (length e.table) g
+fit e g = not_bad e.receiver (length e.table) g
 
 pub keeps : (e : End) (f : List ℕ) → Fine e → Fine (accepting.after e f)
 unfolding Fine
@@ -41,34 +41,34 @@ keeps e f g =
 
 -- ---- its answer is never More
 
-told-not-more : (a : Answer) → (told a).number ≢ 14
-told-not-more BadState = λ e. omega arith
-told-not-more BadLength = λ e. omega arith
-told-not-more (BadRecord k) = λ e. omega arith
-told-not-more (Stale k) = λ e. omega arith
-told-not-more (Ahead k) = λ e. omega arith
-told-not-more (NoRoom k) = λ e. omega arith
-told-not-more (BeyondClose k) = λ e. omega arith
-told-not-more (Conflict k) = λ e. omega arith
-told-not-more Open = λ e. omega arith
-told-not-more (Missing k) = λ e. omega arith
-told-not-more Complete = λ e. omega arith
-told-not-more Differs = λ e. omega arith
+told_not_more : (a : Answer) → (told a).number ≢ 14
+told_not_more BadState = λ e. omega arith
+told_not_more BadLength = λ e. omega arith
+told_not_more (BadRecord k) = λ e. omega arith
+told_not_more (Stale k) = λ e. omega arith
+told_not_more (Ahead k) = λ e. omega arith
+told_not_more (NoRoom k) = λ e. omega arith
+told_not_more (BeyondClose k) = λ e. omega arith
+told_not_more (Conflict k) = λ e. omega arith
+told_not_more Open = λ e. omega arith
+told_not_more (Missing k) = λ e. omega arith
+told_not_more Complete = λ e. omega arith
+told_not_more Differs = λ e. omega arith
 
-outcome-not-more : (o : Outcome) → (outcome_told o).number ≢ 14
+outcome_not_more : (o : Outcome) → (outcome_told o).number ≢ 14
 unfolding stand_told
-outcome-not-more (refused a) = told-not-more a
-outcome-not-more (taken r t) = λ e. omega (arith, stands_from (marked_in r) r.total r.close)
+outcome_not_more (refused a) = told_not_more a
+outcome_not_more (taken r t) = λ e. omega (arith, stands_from (marked_in r) r.total r.close)
 
 pub answers : (e : End) (f : List ℕ) → (accepting.says e f).number ≢ more.number
 unfolding accept_told
-answers e f = outcome-not-more (outcome e.receiver e.table f)
+answers e f = outcome_not_more (outcome e.receiver e.table f)
 
 -- ---- a refusal changes nothing
 
 pub kept : (e : End) (f : List ℕ) → (accepting.says e f).number ≤ 13 → accepting.after e f ≡ e
 kept e f h =
-    ap₂ (λ (r : Receiver) (t : List ℕ). record { receiver = r; table = t }) (refused-unchanged.state e.receiver e.table f h) (refused-unchanged.table e.receiver e.table f h)
+    ap₂ (λ (r : Receiver) (t : List ℕ). record { receiver = r; table = t }) (refused_unchanged.state e.receiver e.table f h) (refused_unchanged.table e.receiver e.table f h)
 
 -- ---- blind to the table's bytes
 

@@ -52,11 +52,11 @@ has-append i (particle j ∷ l) m = go (eqb i j) (has-append i l m)
     go false e = e
 has-append i (close ∷ l) m = has-append i l m
 
-same_item-is : (x y : Item) → same_item x y ≡ true → x ≡ y
-same_item-is (particle i) (particle j) e = ap particle (eqb-true i j e)
-same_item-is (particle i) close e = absurd (true≢false (sym e))
-same_item-is close (particle j) e = absurd (true≢false (sym e))
-same_item-is close close e = refl
+same_item_is : (x y : Item) → same_item x y ≡ true → x ≡ y
+same_item_is (particle i) (particle j) e = ap particle (eqb-true i j e)
+same_item_is (particle i) close e = absurd (true≢false (sym e))
+same_item_is close (particle j) e = absurd (true≢false (sym e))
+same_item_is close close e = refl
 
 and_both : (p q : Bool) → (p && q) ≡ true → (p ≡ true) × (q ≡ true)
 and_both true q e = (refl, e)
@@ -68,7 +68,7 @@ same-frame [] (y ∷ g) e = absurd (true≢false (sym e))
 same-frame (x ∷ f) [] e = absurd (true≢false (sym e))
 same-frame (x ∷ f) (y ∷ g) e =
     let b = and_both (same_item x y) (same_frame f g) e in
-    ap₂ ◌∷◌ (same_item-is x y b.0) (same-frame f g b.1)
+    ap₂ ◌∷◌ (same_item_is x y b.0) (same-frame f g b.1)
 
 -- what a frame that was seen before holds has arrived before
 among-has : (i : ℕ) (f : List Item) (seen : List (List Item)) → is_among f seen ≡ true → (has i (items seen) || has i f) ≡ has i (items seen)
@@ -107,8 +107,8 @@ firsts-has i seen (f ∷ fs) =
     rw (a, has-append i f (items fs), has-append i f (items (firsts (f ∷ seen) fs)))
     (turn s (has i f) (has i (items fs)) ∙ ih ∙ sym (turn s (has i f) (has i (items (firsts (f ∷ seen) fs))))))
 
-pub repeats-add-nothing : (b : Batch) (fs : List (List Item)) → arrived_total b (items fs) ≡ arrived_total b (items (without_repeats fs))
-repeats-add-nothing b fs =
+pub repeats_add_nothing : (b : Batch) (fs : List (List Item)) → arrived_total b (items fs) ≡ arrived_total b (items (without_repeats fs))
+repeats_add_nothing b fs =
     sum_same (λ i. if has i (items fs) then weight_at b i else 0) (λ i. if has i (items (without_repeats fs)) then weight_at b i else 0) (count b)
     (λ j k. rw (firsts-has j [] fs))
 
@@ -116,5 +116,5 @@ repeats-add-nothing b fs =
 pub same_total : (d e : Delivery) → Premises d → Premises e → e.batch ≡ d.batch → e.frames ≡ without_repeats d.frames
     → (receiver_after d).total ≡ (receiver_after e).total
 same_total d e p q b f =
-    total-after d p ∙ repeats-add-nothing d.batch d.frames
+    total-after d p ∙ repeats_add_nothing d.batch d.frames
     ∙ sym (total-after e q ∙ rw (b, f))

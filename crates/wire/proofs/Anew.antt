@@ -11,7 +11,7 @@ use Rattle.wire.specs.Among.{Among}
 use Rattle.wire.specs.Anew.{opened_on, Anew, AfterDelivery, Noise, left_by, AfterNoise}
 use Rattle.wire.proofs.Table.{alone, unseen}
 use Rattle.wire.proofs.Loop.{Good, by_bytes, drive-bytes}
-use Rattle.wire.proofs.Restart.{bytes-through, bytes-zero}
+use Rattle.wire.proofs.Restart.{bytes-through, bytes_zero}
 use Rattle.wire.proofs.Frames.{push-none}
 use Rattle.wire.proofs.Accepting.{Fine, fit, keeps}
 use Rattle.wire.proofs.Sentences.{good_of}
@@ -43,5 +43,5 @@ module _ (n : Noise) where
   after_noise =
       let u = unseen n.handed n.same n.side n.pieces in
       anew (left_by n) (length n.side.buffer)
-      (u.sides.decoders ∙ ap (λ (w : Side End). w.decoder) bytes ∙ bytes-zero accepting Fine fit keeps n.bytes n.side good)
+      (u.sides.decoders ∙ ap (λ (w : Side End). w.decoder) bytes ∙ bytes_zero accepting Fine fit keeps n.bytes n.side good)
       (ap length u.sides.buffers ∙ ap (λ (w : Side End). length w.buffer) bytes ∙ (bytes-through accepting Fine fit keeps (n.bytes ++ 0 ∷ []) n.side good).long)

@@ -30,7 +30,7 @@ use Rattle.dec.proofs.Cases.{by_bool}
 use Rattle.wire.specs.Batch as wire
 use Rattle.wire.specs.Batch.{Batch, count, particle_at, weight_at, total, Sendable, Item, record_of, IsOf, AllOf, has, has_close, arrived_total}
 use Rattle.wire.proofs.Filled.{Filled, filled-again, filled-new, filled-close}
-use Rattle.wire.proofs.Sums.{sum_same, sum-new, sum-zero, sum-most, has-itself, has_other, has-again, has-close, has-none, has_close-particle, has_close-close}
+use Rattle.wire.proofs.Sums.{sum_same, sum-new, sum_zero, sum-most, has-itself, has_other, has-again, has-close, has-none, has_close-particle, has_close-close}
 
 -- ---- the batch's records are valid, and read back
 
@@ -84,7 +84,7 @@ module _ (b : Batch) (can : Sendable b) where
       words = refl;
       slots = refl;
       marks = λ i. none-marked i;
-      total = sym (sum-zero (λ i. 0) (count b) (λ j. refl));
+      total = sym (sum_zero (λ i. 0) (count b) (λ j. refl));
       close = refl;
     }
 
@@ -180,8 +180,8 @@ module _ (b : Batch) (can : Sendable b) where
             filled = λ t₀ m f. filled-new b t₀ l t f i (weight_at b i) s q (rw m slotted) (record-long (wire.particle i) q);
           })
 
-      no-mark-above : AllOf b l → marked_in r ≤ marked_below r.marks (count b)
-      no-mark-above a = from-none r.marks (count b) 4096 (omega arith) (λ j low high. h.marks j ∙ has-none b l a j low)
+      no_mark_above : AllOf b l → marked_in r ≤ marked_below r.marks (count b)
+      no_mark_above a = from-none r.marks (count b) 4096 (omega arith) (λ j low high. h.marks j ∙ has-none b l a j low)
 
       takes-close : (k : ℕ) (t : List ℕ) → AllOf b l → (s : List ℕ) → Took k t wire.close s
       unfolding on_close after stored
@@ -199,7 +199,7 @@ module _ (b : Batch) (can : Sendable b) where
           let c : r.close ≡ Not = h.close ∙ ap close_by e in
           record {
             effect = effect.Close (count b) (total b);
-            verdict = judged k t wire.close tt s ∙ rw (le-ltb r.slots (count b) enough, c, le-ltb (marked_below r.marks (count b)) (marked_in r) (no-mark-above a));
+            verdict = judged k t wire.close tt s ∙ rw (le-ltb r.slots (count b) enough, c, le-ltb (marked_below r.marks (count b)) (marked_in r) (no_mark_above a));
             held = close-held (after (effect.Close (count b) (total b)) r) refl refl refl refl refl;
             filled = λ t₀ m f. filled-close b t₀ l t f;
           })

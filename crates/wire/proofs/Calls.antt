@@ -22,7 +22,7 @@ use Rattle.dec.specs.declared.stream.PushAnswer.TheVariants as push
 use Rattle.dec.specs.declared.stream.Pushed.{Pushed}
 use Rattle.dec.proofs.Cases.{by_bool}
 use Rattle.dec.proofs.Good.{Good, good_of, good-byte}
-use Rattle.dec.proofs.Pieces.{piece-goes, piece-stops, byte-goes, further-keeps, further-counts, push-piece}
+use Rattle.dec.proofs.Pieces.{piece_goes, piece_stops, byte-goes, further-keeps, further-counts, push_piece}
 use Rattle.batch.specs.State.{is_bad, told_standing, stand_by, stand_told, stands_told}
 use Rattle.batch.specs.Frame.{accept_told, accept_next, accept_table}
 use Rattle.batch.specs.declared.Receiver.{Receiver}
@@ -55,21 +55,21 @@ good-told : (r : Receiver) (n : ℕ) → (stands_told r n ≡ bad_state → ⊥)
 unfolding stands_told
 good-told r n h = by_bool (is_bad r n) (λ q. absurd (h (rw q))) (λ q. q)
 
-not-bad-standing : (s : Standing) → OneOf (1 ∷ 2 ∷ 3 ∷ 4 ∷ []) (tag_of the_type s) → told_standing s ≡ bad_state → ⊥
-not-bad-standing standing.BadState k e = miss (1 ∷ 2 ∷ 3 ∷ 4 ∷ []) 0 tt k
-not-bad-standing standing.Open k e = unlike e (λ z. omega arith)
-not-bad-standing (standing.Missing n) k e = unlike e (λ z. omega arith)
-not-bad-standing standing.Complete k e = unlike e (λ z. omega arith)
-not-bad-standing standing.Differs k e = unlike e (λ z. omega arith)
+not_bad-standing : (s : Standing) → OneOf (1 ∷ 2 ∷ 3 ∷ 4 ∷ []) (tag_of the_type s) → told_standing s ≡ bad_state → ⊥
+not_bad-standing standing.BadState k e = miss (1 ∷ 2 ∷ 3 ∷ 4 ∷ []) 0 tt k
+not_bad-standing standing.Open k e = unlike e (λ z. omega arith)
+not_bad-standing (standing.Missing n) k e = unlike e (λ z. omega arith)
+not_bad-standing standing.Complete k e = unlike e (λ z. omega arith)
+not_bad-standing standing.Differs k e = unlike e (λ z. omega arith)
 
 -- what `handed` makes
 abbrev pub Handed : Receipt → CobsDecoder → Receiver → Received → ℕ → Type 0
 Handed r d q a n = (r.next.decoder ≡ d) × (r.next.receiver ≡ q) × (r.answer ≡ a) × (r.consumed ≡ n)
 
-leaves-is : (r : Receipt) (d : CobsDecoder) (q : Receiver) (a : Received) (n : ℕ) → Handed r d q a n → (buffer table : List ℕ)
+leaves_is : (r : Receipt) (d : CobsDecoder) (q : Receiver) (a : Received) (n : ℕ) → Handed r d q a n → (buffer table : List ℕ)
     → leaves r buffer table
     ≡ record { side = record { decoder = d; buffer = buffer; state = record { receiver = q; table = table } }; answer = told_received a; consumed = n }
-leaves-is r d q a n h buffer table = rw (h.0, h.1, h.2, h.3)
+leaves_is r d q a n h buffer table = rw (h.0, h.1, h.2, h.3)
 
 -- a decoder's BadState is what a push answers and leaves
 push-then : (w : Wire) (buffer table piece : List ℕ) → is_bad w.receiver (length table) ≡ false
@@ -99,31 +99,31 @@ byte-size d room b g =
     by_bool d.skip (λ q. rw q (λ e. absurd (false≢true e)))
     (λ q. rw q (result-size d.place room g.within (stepped d.state b).state (stepped d.state b).result))
 
-piece-size : (p : List ℕ) (d : CobsDecoder) (room : ℕ) → Good d room → is_done (piece_outcome d room p).answer ≡ true → (piece_outcome d room p).answer.first ≤ room
+piece_size : (p : List ℕ) (d : CobsDecoder) (room : ℕ) → Good d room → is_done (piece_outcome d room p).answer ≡ true → (piece_outcome d room p).answer.first ≤ room
 unfolding piece_outcome
-piece-size [] d room g = λ e. absurd (false≢true e)
-piece-size (b ∷ p) d room g =
+piece_size [] d room g = λ e. absurd (false≢true e)
+piece_size (b ∷ p) d room g =
     let o : Outcome = byte_outcome d room b in
     let n : Outcome = piece_outcome o.next room p in
     by_bool (is_more o)
     (λ q.
-    rw (piece-goes d room b p o.next (byte-goes d room b q))
+    rw (piece_goes d room b p o.next (byte-goes d room b q))
     (by_bool (is_more n)
-    (λ m. rw (further-keeps 1 n m) (piece-size p o.next room (good-byte d room b g)))
-    (λ m. rw (further-counts 1 n m) (piece-size p o.next room (good-byte d room b g)))))
-    (λ q. rw (piece-stops d room b p q) (byte-size d room b g))
+    (λ m. rw (further-keeps 1 n m) (piece_size p o.next room (good-byte d room b g)))
+    (λ m. rw (further-counts 1 n m) (piece_size p o.next room (good-byte d room b g)))))
+    (λ q. rw (piece_stops d room b p q) (byte-size d room b g))
 
 push-size : (d : CobsDecoder) (room : ℕ) (p : List ℕ) → is_done (push_outcome d room p).answer ≡ true → (push_outcome d room p).answer.first ≤ room
 push-size d room p =
     by_bool (bad d room) (λ q. rw (push-bad d room p q) (λ e. absurd (false≢true e)))
-    (λ q. rw (push-piece d room q p) (piece-size p d room (good_of d room q)))
+    (λ q. rw (push_piece d room q p) (piece_size p d room (good_of d room q)))
 
 module _ (w : Wire) (buffer table piece : List ℕ) where
   pub call-bad : (s : Standing) → told_standing s ≡ stands_told w.receiver (length table) → s ≡ standing.BadState
       → (r : Receipt) → Handed r w.decoder w.receiver says.BadState 0 → leaves r buffer table ≡ received accepting (calls w buffer table) piece
   unfolding received
   call-bad s e q r h =
-      leaves-is r w.decoder w.receiver says.BadState 0 h buffer table
+      leaves_is r w.decoder w.receiver says.BadState 0 h buffer table
       ∙ sym (rw (bad-told w.receiver (length table) (sym e ∙ ap told_standing q)) (go (bad w.decoder (length buffer))))
     where
       go : (t : Bool) → (if t || true then record { side = calls w buffer table; answer = bad_state; consumed = 0 } else hand_on accepting (push_outcome w.decoder (length buffer) piece) (push_dest w.decoder piece buffer) (record { receiver = w.receiver; table = table }) piece)
@@ -136,7 +136,7 @@ module _ (w : Wire) (buffer table piece : List ℕ) where
   module _ (s : Standing) (e : told_standing s ≡ stands_told w.receiver (length table)) (k : OneOf (1 ∷ 2 ∷ 3 ∷ 4 ∷ []) (tag_of the_type s))
       (pushed : Pushed) (left : List ℕ) (o : outcome pushed ≡ push_outcome w.decoder (length buffer) piece) (m : left ≡ push_dest w.decoder piece buffer) where
     good-here : is_bad w.receiver (length table) ≡ false
-    good-here = good-told w.receiver (length table) (λ q. not-bad-standing s k (e ∙ q))
+    good-here = good-told w.receiver (length table) (λ q. not_bad-standing s k (e ∙ q))
 
     push-call : received accepting (calls w buffer table) piece ≡ hand_on accepting (outcome pushed) left (record { receiver = w.receiver; table = table }) piece
     push-call =
@@ -145,19 +145,19 @@ module _ (w : Wire) (buffer table piece : List ℕ) where
 
     pub call-more : pushed.answer ≡ push.More → (r : Receipt) → Handed r pushed.next w.receiver says.More (length piece)
         → leaves r left table ≡ received accepting (calls w buffer table) piece
-    call-more q r h = leaves-is r pushed.next w.receiver says.More (length piece) h left table ∙ sym (push-call ∙ rw q)
+    call-more q r h = leaves_is r pushed.next w.receiver says.More (length piece) h left table ∙ sym (push-call ∙ rw q)
 
-    pub call-invalid : (decoded consumed : ℕ) → pushed.answer ≡ push.InvalidFrame decoded consumed → (r : Receipt) → Handed r pushed.next w.receiver (says.InvalidFrame decoded) consumed
+    pub call_invalid : (decoded consumed : ℕ) → pushed.answer ≡ push.InvalidFrame decoded consumed → (r : Receipt) → Handed r pushed.next w.receiver (says.InvalidFrame decoded) consumed
         → leaves r left table ≡ received accepting (calls w buffer table) piece
-    call-invalid decoded consumed q r h = leaves-is r pushed.next w.receiver (says.InvalidFrame decoded) consumed h left table ∙ sym (push-call ∙ rw q)
+    call_invalid decoded consumed q r h = leaves_is r pushed.next w.receiver (says.InvalidFrame decoded) consumed h left table ∙ sym (push-call ∙ rw q)
 
     pub call-small : (consumed : ℕ) → pushed.answer ≡ push.TargetBufTooSmall consumed → (r : Receipt) → Handed r pushed.next w.receiver says.TargetBufTooSmall consumed
         → leaves r left table ≡ received accepting (calls w buffer table) piece
-    call-small consumed q r h = leaves-is r pushed.next w.receiver says.TargetBufTooSmall consumed h left table ∙ sym (push-call ∙ rw q)
+    call-small consumed q r h = leaves_is r pushed.next w.receiver says.TargetBufTooSmall consumed h left table ∙ sym (push-call ∙ rw q)
 
     pub call-state : pushed.answer ≡ push.BadState → (r : Receipt) → Handed r pushed.next w.receiver says.BadState 0
         → leaves r left table ≡ received accepting (calls w buffer table) piece
-    call-state q r h = leaves-is r pushed.next w.receiver says.BadState 0 h left table ∙ sym (push-call ∙ rw q)
+    call-state q r h = leaves_is r pushed.next w.receiver says.BadState 0 h left table ∙ sym (push-call ∙ rw q)
 
     -- a frame fits the buffer, and goes to the receiver
     pub frame-room : (size parsed : ℕ) → pushed.answer ≡ push.Frame size parsed → size ≤ length left
@@ -171,4 +171,4 @@ module _ (w : Wire) (buffer table piece : List ℕ) where
         → after ≡ accept_next w.receiver table (take size left) → told_received a ≡ accept_told w.receiver table (take size left) → table' ≡ accept_table w.receiver table (take size left)
         → (r : Receipt) → Handed r pushed.next after a parsed → leaves r left table' ≡ received accepting (calls w buffer table) piece
     call-frame size parsed q after a table' x y z r h =
-        leaves-is r pushed.next after a parsed h left table' ∙ rw (x, y, z) (sym (push-call ∙ rw q))
+        leaves_is r pushed.next after a parsed h left table' ∙ rw (x, y, z) (sym (push-call ∙ rw q))

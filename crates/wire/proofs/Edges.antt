@@ -41,8 +41,8 @@ close-frame b = record { some = omega arith; most = omega arith; ours = (tt, tt)
 
 -- ---- nothing at all
 
-met-into : (buffer : List ℕ) → 240 ≤ length buffer → Premises (least_into buffer)
-met-into buffer h = record {
+met_into : (buffer : List ℕ) → 240 ≤ length buffer → Premises (least_into buffer)
+met_into buffer h = record {
   sendable = record { numbered = omega arith; few = omega arith; ranges = λ i h. absurd (not-suc-le-zero h) };
   framing = (close-frame nobody, tt);
   begins = record { frame = close ∷ []; framing = close-frame nobody; later = encode (message nobody (close ∷ [])); front = refl };
@@ -53,15 +53,15 @@ met-into buffer h = record {
 }
 
 met-least : Premises least
-met-least = met-into (replicate 240 0) (omega (arith, length-replicate {A = ℕ} 240 0))
+met-least = met_into (replicate 240 0) (omega (arith, length-replicate {A = ℕ} 240 0))
 
-pub empty-complete : EmptyComplete
+pub empty_complete : EmptyComplete
 unfolding sum_below count_below
-empty-complete = record { premises = met-least; answers = (demand3 least met-least).answers }
+empty_complete = record { premises = met-least; answers = (demand3 least met-least).answers }
 
 -- nothing else comes with it
-abbrev nothing-else : Among least
-nothing-else =
+abbrev nothing_else : Among least
+nothing_else =
     record {
       came = ours (close ∷ []) ∷ [];
       all = (close-frame nobody, tt);
@@ -77,8 +77,8 @@ nothing-else =
 pub complete-again : CompleteAgain
 unfolding sum_below count_below
 complete-again =
-    let a : Anew (run least).side 240 = after-delivery least met-least nothing-else refl in
-    let m : Premises (least_into (run least).side.buffer) = met-into (run least).side.buffer (omega (arith, a.buffer)) in
+    let a : Anew (run least).side 240 = after-delivery least met-least nothing_else refl in
+    let m : Premises (least_into (run least).side.buffer) = met_into (run least).side.buffer (omega (arith, a.buffer)) in
     record { premises = m; answers = a.answers (least_into (run least).side.buffer) m refl }
 
 -- ---- the most of everything: the premises
@@ -87,15 +87,15 @@ widest-count : count widest ≡ 4096
 unfolding widest
 widest-count = length-replicate 4096 heaviest
 
-heaviest-in : InRange heaviest
+heaviest_in : InRange heaviest
 unfolding heaviest
-heaviest-in = record { x16 = omega arith; y16 = omega arith; z16 = omega arith; light = omega arith }
+heaviest_in = record { x16 = omega arith; y16 = omega arith; z16 = omega arith; light = omega arith }
 
 heavy : (n : ℕ) → n < 65536 → Sendable (record { number = n; particles = replicate 4096 heaviest })
 heavy n h = record {
   numbered = omega arith;
   few = omega (arith, length-replicate 4096 heaviest);
-  ranges = λ i k. subst InRange (sym (get_or-replicate 4096 i heaviest _ (omega (arith, length-replicate 4096 heaviest)))) heaviest-in;
+  ranges = λ i k. subst InRange (sym (get_or-replicate 4096 i heaviest _ (omega (arith, length-replicate 4096 heaviest)))) heaviest_in;
 }
 
 widest-sendable : Sendable widest
@@ -106,16 +106,16 @@ numbered_of : (b : Batch) (n k : ℕ) → k + n ≤ count b → AllOf b (numbere
 numbered_of b zero k h = tt
 numbered_of b (suc n) k h = (omega arith, numbered_of b n (suc k) (omega arith))
 
-fifteen-of : (b : Batch) (k : ℕ) → k + 15 ≤ count b → Frame b (numbered_from 15 k)
-fifteen-of b k h = record { some = omega arith; most = omega arith; ours = numbered_of b 15 k h }
+fifteen_of : (b : Batch) (k : ℕ) → k + 15 ≤ count b → Frame b (numbered_from 15 k)
+fifteen_of b k h = record { some = omega arith; most = omega arith; ours = numbered_of b 15 k h }
 
-fifteen-frame : (k : ℕ) → k + 15 ≤ 4096 → Frame widest (numbered_from 15 k)
-fifteen-frame k h = fifteen-of widest k (omega (arith, widest-count))
+fifteen_frame : (k : ℕ) → k + 15 ≤ 4096 → Frame widest (numbered_from 15 k)
+fifteen_frame k h = fifteen_of widest k (omega (arith, widest-count))
 
 all-frames : (n k : ℕ) → k + n * 15 ≤ 4095 → Frames widest (fifteens n k ++ last_frame ∷ [])
 unfolding fifteens last_frame
 all-frames zero k h = (record { some = omega arith; most = omega arith; ours = (omega (arith, widest-count), (tt, tt)) }, tt)
-all-frames (suc n) k h = (fifteen-frame k (omega (arith, suc-mul n 15)), all-frames n (k + 15) (omega (arith, suc-mul n 15)))
+all-frames (suc n) k h = (fifteen_frame k (omega (arith, suc-mul n 15)), all-frames n (k + 15) (omega (arith, suc-mul n 15)))
 
 begun-at : (b : Batch) (f : List Item) → Frame b f → (n : ℕ) → Begun b (take n (encode (message b f)))
 begun-at b f g n =
@@ -123,7 +123,7 @@ begun-at b f g n =
 
 begins : Begun widest beginning
 unfolding beginning
-begins = begun-at widest (numbered_from 15 0) (fifteen-frame 0 (omega arith)) 100
+begins = begun-at widest (numbered_from 15 0) (fifteen_frame 0 (omega arith)) 100
 
 met : Premises most
 unfolding most stream
@@ -208,24 +208,24 @@ most-met = record {
 
 before-frame : Frame before (numbered_from 15 4081)
 unfolding before
-before-frame = fifteen-of (record { number = 65534; particles = replicate 4096 heaviest }) 4081 (omega (arith, length-replicate 4096 heaviest))
+before-frame = fifteen_of (record { number = 65534; particles = replicate 4096 heaviest }) 4081 (omega (arith, length-replicate 4096 heaviest))
 
 late-begins : Begun before late_beginning
 unfolding late_beginning
 late-begins = begun-at before (numbered_from 15 4081) before-frame 100
 
-is-before : Other widest before
+is_before : Other widest before
 unfolding widest before
-is-before = record { unlike = λ e. omega arith; sendable = heavy 65534 (omega arith) }
+is_before = record { unlike = λ e. omega arith; sendable = heavy 65534 (omega arith) }
 
-is-after : Other widest nobody
+is_after : Other widest nobody
 unfolding widest
-is-after = record { unlike = λ e. omega arith; sendable = met-least.sendable }
+is_after = record { unlike = λ e. omega arith; sendable = met-least.sendable }
 
 crowded-came : (fs : List (List Item)) → Frames widest fs → AllCame widest (crowded fs)
 unfolding crowded
 crowded-came [] g = tt
-crowded-came (f ∷ fs) g = (is-before, before-frame, (g.0, (is-after, close-frame nobody, crowded-came fs g.1)))
+crowded-came (f ∷ fs) g = (is_before, before-frame, (g.0, (is_after, close-frame nobody, crowded-came fs g.1)))
 
 crowded-ours : (fs : List (List Item)) → ours_in (crowded fs) ≡ fs
 unfolding crowded
@@ -239,7 +239,7 @@ crowd = record {
   all = crowded-came most.frames met.framing;
   frames = crowded-ours most.frames;
   last = before;
-  sendable = is-before.sendable;
+  sendable = is_before.sendable;
   begun = late_beginning;
   begins = late-begins;
   pieces = (bytes_of widest (crowded most.frames) ++ late_beginning) ∷ [];
@@ -256,7 +256,7 @@ noise-refused : (noise_run least skipping noise).said ≡ refused_with bad_lengt
 unfolding again.drive again.run again.run_in received bad byte_outcome byte_dest further stream.joined piece_outcome piece_dest push_outcome push_dest opened limit is_bad stand_told stands_told marked_below marked bit_at count_below is_bad_length outcome accept_told accept_next accept_table
 noise-refused = refl
 
-noisy : Noisy least nothing-else
+noisy : Noisy least nothing_else
 unfolding bad
 noisy = record {
   decoder = skipping;
@@ -269,4 +269,4 @@ noisy = record {
 
 pub complete-after-noise : CompleteAfterNoise
 unfolding sum_below count_below noisy
-complete-after-noise = (unmoved least met-least nothing-else noisy).answers ∙ ap (λ (t : List (Said Seen)). t ++ complete_with 0 0 ∷ []) noise-refused
+complete-after-noise = (unmoved least met-least nothing_else noisy).answers ∙ ap (λ (t : List (Said Seen)). t ++ complete_with 0 0 ∷ []) noise-refused

@@ -104,9 +104,9 @@ abbrev seen : (answer : Told) (total marked : ℕ) → Said Seen
 seen t total marked = record { answer = t; shown = record { total = total; marked = marked; stands = t } }
 
 -- Open, then one missing, then still one, then Complete, with the whole weight
-pub to-complete : (run (delivery came)).said ≡ seen still_open 250 1 ∷ seen (missing 1) 250 1 ∷ seen (missing 1) 250 1 ∷ seen complete 1250 2 ∷ []
+pub to_complete : (run (delivery came)).said ≡ seen still_open 250 1 ∷ seen (missing 1) 250 1 ∷ seen (missing 1) 250 1 ∷ seen complete 1250 2 ∷ []
 unfolding two came sum_below count_below delivery
-to-complete = (demand3 (delivery came) (met came framing-came)).answers
+to_complete = (demand3 (delivery came) (met came framing-came)).answers
 
 -- all particles arrived, and it stays Open
 pub stays_open : (run (delivery lost)).said ≡ seen still_open 250 1 ∷ seen still_open 250 1 ∷ seen still_open 1250 2 ∷ []

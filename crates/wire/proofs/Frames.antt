@@ -16,13 +16,13 @@ use Rattle.cobs.proofs.Over.{over-fits}
 use Rattle.dec.specs.Stream.{Outcome, new, goes, stops, is_more, bad, byte_outcome, byte_dest, piece_outcome, piece_dest, push_outcome, push_dest}
 use Rattle.dec.proofs.Cases.{by_bool}
 use Rattle.dec.proofs.Good.{new-good}
-use Rattle.dec.proofs.Pieces.{joined-stop, push-piece, push_dest-piece, push-cut}
+use Rattle.dec.proofs.Pieces.{joined_stop, push_piece, push_dest_piece, push-cut}
 use Rattle.dec.proofs.Restart.{used-within}
 use Rattle.dec.proofs.Frames.{push-encode, push_dest-encode}
 use Rattle.wire.specs.Again as again
 use Rattle.wire.specs.Again.{Run, stopped, heard}
 use Rattle.wire.specs.Loop.{Side, Taker, received}
-use Rattle.wire.proofs.Loop.{Good, Alike, alike-sym, alike-trans, run_in, by_bytes, by_bytes-goes, piece_bytes, heard-alike}
+use Rattle.wire.proofs.Loop.{Good, Alike, alike-sym, alike_trans, run_in, by_bytes, by_bytes-goes, piece_bytes, heard-alike}
 
 -- the front of an encoding, from a new decoder: the piece is used up
 pub front-more : (m s later : List ℕ) (room : ℕ) → length m ≤ room → s ++ later ≡ encode m → is_more (push_outcome new room s) ≡ true
@@ -32,16 +32,16 @@ front-more m s later room h e =
     let g : bad new room ≡ false = new-good room in
     let a : (s ++ (later ++ 0 ∷ [])) ≡ encode m ++ 0 ∷ [] = sym (append_assoc s later (0 ∷ [])) ∙ ap (λ (l : List ℕ). l ++ 0 ∷ []) e in
     let c : push_outcome new room s ≡ stops new (done (length m) (length (encode m) + 1)) =
-    sym (joined-stop (length s) (push_outcome new room s) (push_outcome (push_outcome new room s).next room (later ++ 0 ∷ [])) t)
+    sym (joined_stop (length s) (push_outcome new room s) (push_outcome (push_outcome new room s).next room (later ++ 0 ∷ [])) t)
     ∙ sym (push-cut new s (later ++ 0 ∷ []) room g) ∙ ap (push_outcome new room) a ∙ push-encode m [] room h in
     let u : length (encode m) + 1 ≤ length s =
-    rw (← push-piece new room g s, c) at (used-within s new room) in
+    rw (← push_piece new room g s, c) at (used-within s new room) in
     absurd (omega (arith, u, length-append s later, ap length e)))
 
 -- no byte: the decoder waits
 pub push-none : (room : ℕ) → push_outcome new room [] ≡ goes new
 unfolding piece_outcome
-push-none room = push-piece new room (new-good room) []
+push-none room = push_piece new room (new-good room) []
 
 -- what is left after a frame and its zero
 drop_past : (s t : List ℕ) → drop (length s + 1) (s ++ 0 ∷ t) ≡ t
@@ -94,7 +94,7 @@ module _ {S View : Type 0} (taker : Taker S View) (Fine : S → Type 0) (fit : (
       run_step n 0 w p (omega (arith, length-append (encode m) (0 ∷ t)))
       ∙ rw (r, drop_past (encode m) t) in
       rw (← heard-answered s m (by_bytes taker Fine fit keeps v t))
-      (alike-trans taker Fine fit keeps
+      (alike_trans taker Fine fit keeps
       (alike-sym taker Fine fit keeps (piece_bytes taker Fine fit keeps p (suc n) 0 w (waiting-good buffer s h) (omega arith)))
       (rw whole
       (heard-alike taker Fine fit keeps (taker.says s m) (taker.shows (taker.after s m)) (run_in taker Fine fit keeps n 1 v t) (by_bytes taker Fine fit keeps v t)
@@ -118,7 +118,7 @@ module _ {S View : Type 0} (taker : Taker S View) (Fine : S → Type 0) (fit : (
 
   inside-none : (buffer : List ℕ) (s : S) → inside buffer [] s ≡ waiting buffer s
   unfolding piece_dest
-  inside-none buffer s = rw (push-none (length buffer), push_dest-piece new [] buffer (new-good (length buffer)))
+  inside-none buffer s = rw (push-none (length buffer), push_dest_piece new [] buffer (new-good (length buffer)))
 
   -- the front of one more says nothing and changes no state of the taker
   pub deliver-front : (buffer : List ℕ) (s : S) → Fine s → (p : List ℕ) → is_more (push_outcome new (length buffer) p) ≡ true
@@ -136,7 +136,7 @@ module _ {S View : Type 0} (taker : Taker S View) (Fine : S → Type 0) (fit : (
       (alike-sym taker Fine fit keeps (piece_bytes taker Fine fit keeps p (suc (length p)) 0 w (waiting-good buffer s h) (omega arith)))
 
   -- a zero between frames changes nothing
-  pub idle-zero : (buffer : List ℕ) (s : S) → Fine s → (t : List ℕ)
+  pub idle_zero : (buffer : List ℕ) (s : S) → Fine s → (t : List ℕ)
       → by_bytes taker Fine fit keeps (waiting buffer s) (0 ∷ t) ≡ by_bytes taker Fine fit keeps (waiting buffer s) t
   unfolding byte_outcome byte_dest
-  idle-zero buffer s h t = by_bytes-goes taker Fine fit keeps (waiting buffer s) (waiting-good buffer s h) 0 t refl
+  idle_zero buffer s h t = by_bytes-goes taker Fine fit keeps (waiting buffer s) (waiting-good buffer s h) 0 t refl

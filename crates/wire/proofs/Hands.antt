@@ -55,11 +55,11 @@ module _ {S View : Type 0} (taker : Taker S View) (like : S → S → Type 0)
       rw (← l.decoders, ← l.buffers) (received-same w.decoder w.buffer (hand k w.state) (hand' k v.state) (hands k w.state v.state l.states) p)
 
   -- calls again and again
-  any-piece : (ps : List (List ℕ)) → Each (λ p. Unit {0}) ps
-  any-piece [] = tt
-  any-piece (p ∷ ps) = (tt, any-piece ps)
+  any_piece : (ps : List (List ℕ)) → Each (λ p. Unit {0}) ps
+  any_piece [] = tt
+  any_piece (p ∷ ps) = (tt, any_piece ps)
 
   pub drive-same : (ps : List (List ℕ)) (k : ℕ) (w v : Side S) → Likewise w v → AlikeTo Likewise (drive taker hand k w ps) (drive taker hand' k v ps)
   drive-same ps k w v l =
       again.drive-same Likewise (λ p. Unit {0}) (λ p n h. tt) (called taker hand) (called taker hand') (λ k w v l p h. called_same k w v l p) (seen taker hand)
-      (seen taker hand') (λ w v l. shows w.state v.state l.states) ps (any-piece ps) k w v l
+      (seen taker hand') (λ w v l. shows w.state v.state l.states) ps (any_piece ps) k w v l

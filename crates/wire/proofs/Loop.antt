@@ -13,8 +13,8 @@ use Rattle.cobs.specs.Answers.{Told, more, is_done}
 use Rattle.dec.specs.Stream.{Outcome, is_more, bad, byte_outcome, byte_dest, further, piece_outcome, piece_dest, push_dest}
 use Rattle.dec.specs.declared.stream.CobsDecoder.{CobsDecoder}
 use Rattle.dec.proofs.Cases.{by_bool}
-use Rattle.dec.proofs.Good.{good_of, of-good, good-byte, push-good}
-use Rattle.dec.proofs.Pieces.{length-byte, length-piece, piece-goes, piece-stops, dest-goes, dest-stops, byte-goes, further-keeps, further-counts, push-piece, push_dest-piece}
+use Rattle.dec.proofs.Good.{good_of, of_good, good-byte, push-good}
+use Rattle.dec.proofs.Pieces.{length-byte, length_piece, piece_goes, piece_stops, dest-goes, dest-stops, byte-goes, further-keeps, further-counts, push_piece, push_dest_piece}
 use Rattle.dec.proofs.Restart.{byte-counts, used-within}
 use Rattle.wire.specs.Again as again
 use Rattle.wire.specs.Again.{Received, Said, Run, stopped, heard, and_then, joined}
@@ -22,7 +22,7 @@ use Rattle.wire.specs.Loop.{Side, Taker, hand_on, received, called, seen, run, d
 
 pub length_push : (d : CobsDecoder) (p m : List ℕ) → length (push_dest d p m) ≡ length m
 unfolding push_dest
-length_push d p m = by_bool (bad d (length m)) (λ q. rw q) (λ q. rw q (length-piece p d (length m) m))
+length_push d p m = by_bool (bad d (length m)) (λ q. rw q) (λ q. rw q (length_piece p d (length m) m))
 
 -- A call takes no more than its piece, from any states.
 pub taken-within : {S View : Type 0} (taker : Taker S View) (w : Side S) (p : List ℕ) → (received taker w p).consumed ≤ length p
@@ -31,7 +31,7 @@ taken-within taker w p =
     by_bool (bad w.decoder (length w.buffer)) (λ q. rw q zero-le)
     (λ q.
     by_bool (taker.is_bad w.state) (λ t. rw (q, t) zero-le)
-    (λ t. rw (q, t, push-piece w.decoder (length w.buffer) q p) (used-within p w.decoder (length w.buffer))))
+    (λ t. rw (q, t, push_piece w.decoder (length w.buffer) q p) (used-within p w.decoder (length w.buffer))))
 
 module _ {S View : Type 0} (taker : Taker S View) (Fine : S → Type 0) (fit : (s : S) → Fine s → taker.is_bad s ≡ false)
     (keeps : (s : S) (f : List ℕ) → Fine s → Fine (taker.after s f)) where
@@ -44,7 +44,7 @@ module _ {S View : Type 0} (taker : Taker S View) (Fine : S → Type 0) (fit : (
       → received taker w p ≡ hand_on taker (piece_outcome w.decoder (length w.buffer) p) (piece_dest w.decoder (length w.buffer) p w.buffer) w.state p
   unfolding received
   received-on w g p =
-      rw (g.decoding, fit w.state g.taking, push-piece w.decoder (length w.buffer) g.decoding p, push_dest-piece w.decoder p w.buffer g.decoding)
+      rw (g.decoding, fit w.state g.taking, push_piece w.decoder (length w.buffer) g.decoding p, push_dest_piece w.decoder p w.buffer g.decoding)
 
   -- no call leads to a BadState
   state-good : (o : Outcome) (buffer : List ℕ) (s : S) (p : List ℕ) → Fine s → Fine (hand_on taker o buffer s p).side.state
@@ -56,7 +56,7 @@ module _ {S View : Type 0} (taker : Taker S View) (Fine : S → Type 0) (fit : (
       rw (received-on w g p)
       (record {
         decoding =
-            rw (length-piece p w.decoder (length w.buffer) w.buffer, ← push-piece w.decoder (length w.buffer) g.decoding p)
+            rw (length_piece p w.decoder (length w.buffer) w.buffer, ← push_piece w.decoder (length w.buffer) g.decoding p)
             (push-good w.decoder (length w.buffer) p g.decoding);
         taking =
             state-good (piece_outcome w.decoder (length w.buffer) p) (piece_dest w.decoder (length w.buffer) p w.buffer) w.state p g.taking;
@@ -80,7 +80,7 @@ module _ {S View : Type 0} (taker : Taker S View) (Fine : S → Type 0) (fit : (
   past-good w g b = record {
     decoding =
         rw (length-byte w.decoder b w.buffer)
-        (of-good (byte_outcome w.decoder (length w.buffer) b).next (length w.buffer)
+        (of_good (byte_outcome w.decoder (length w.buffer) b).next (length w.buffer)
         (good-byte w.decoder (length w.buffer) b (good_of w.decoder (length w.buffer) g.decoding)));
     taking = g.taking;
   }
@@ -92,19 +92,19 @@ module _ {S View : Type 0} (taker : Taker S View) (Fine : S → Type 0) (fit : (
     received-goes : is_more o ≡ true → received taker w (b ∷ p) ≡ later (received taker (past w b) p)
     received-goes e =
         received-on w g (b ∷ p)
-        ∙ rw (piece-goes w.decoder (length w.buffer) b p o.next (byte-goes w.decoder (length w.buffer) b e), dest-goes w.decoder (length w.buffer) b p o.next (byte-goes w.decoder (length w.buffer) b e) w.buffer)
+        ∙ rw (piece_goes w.decoder (length w.buffer) b p o.next (byte-goes w.decoder (length w.buffer) b e), dest-goes w.decoder (length w.buffer) b p o.next (byte-goes w.decoder (length w.buffer) b e) w.buffer)
         (hand-further (piece_outcome o.next (length w.buffer) p) (piece_dest o.next (length w.buffer) p (byte_dest w.decoder b w.buffer)) w.state b p)
         ∙ ap later (sym (rw (length-byte w.decoder b w.buffer) at (received-on (past w b) (past-good w g b) p)))
 
     received-stops : is_more o ≡ false → received taker w (b ∷ p) ≡ received taker w (b ∷ [])
     received-stops e =
         received-on w g (b ∷ p)
-        ∙ rw (piece-stops w.decoder (length w.buffer) b p e, dest-stops w.decoder (length w.buffer) b p e w.buffer, e)
-        (sym (received-on w g (b ∷ []) ∙ rw (piece-stops w.decoder (length w.buffer) b [] e, dest-stops w.decoder (length w.buffer) b [] e w.buffer, e)))
+        ∙ rw (piece_stops w.decoder (length w.buffer) b p e, dest-stops w.decoder (length w.buffer) b p e w.buffer, e)
+        (sym (received-on w g (b ∷ []) ∙ rw (piece_stops w.decoder (length w.buffer) b [] e, dest-stops w.decoder (length w.buffer) b [] e w.buffer, e)))
 
     received-one : is_more o ≡ false → (received taker w (b ∷ p)).consumed ≡ 1
     received-one e =
-        rw (received-on w g (b ∷ p), piece-stops w.decoder (length w.buffer) b p e, e) (byte-counts w.decoder (length w.buffer) b e)
+        rw (received-on w g (b ∷ p), piece_stops w.decoder (length w.buffer) b p e, e) (byte-counts w.decoder (length w.buffer) b e)
 
     -- a call takes a byte or more
     pub takes : 1 ≤ (received taker w (b ∷ p)).consumed
@@ -120,8 +120,8 @@ module _ {S View : Type 0} (taker : Taker S View) (Fine : S → Type 0) (fit : (
   run_in n k w p = again.run_in (called taker keep) (seen taker keep) n k w p
 
   -- what is left of a piece after a call is shorter
-  rest-shorter : (w : Side S) → Good w → (b : ℕ) (p : List ℕ) → length (drop (received taker w (b ∷ p)).consumed (b ∷ p)) ≤ length p
-  rest-shorter w g b p = omega (arith, length-drop (received taker w (b ∷ p)).consumed (b ∷ p), takes w g b p)
+  rest_shorter : (w : Side S) → Good w → (b : ℕ) (p : List ℕ) → length (drop (received taker w (b ∷ p)).consumed (b ∷ p)) ≤ length p
+  rest_shorter w g b p = omega (arith, length-drop (received taker w (b ∷ p)).consumed (b ∷ p), takes w g b p)
 
   -- any count that is large enough gives the same
   enough : (n m k : ℕ) (w : Side S) → Good w → (p : List ℕ) → length p ≤ n → length p ≤ m → run_in n k w p ≡ run_in m k w p
@@ -135,7 +135,7 @@ module _ {S View : Type 0} (taker : Taker S View) (Fine : S → Type 0) (fit : (
   enough (suc n) (suc m) k w g (b ∷ p) h l =
       let r : Received (Side S) = received taker w (b ∷ p) in
       ap (heard r.answer (taker.shows r.side.state))
-      (enough n m (suc k) r.side (received-good w g (b ∷ p)) (drop r.consumed (b ∷ p)) (omega (arith, rest-shorter w g b p)) (omega (arith, rest-shorter w g b p)))
+      (enough n m (suc k) r.side (received-good w g (b ∷ p)) (drop r.consumed (b ∷ p)) (omega (arith, rest_shorter w g b p)) (omega (arith, rest_shorter w g b p)))
 
   -- Two runs said the same and left the same; how many calls they took may differ.
   pub record Alike (r s : Run (Side S) View) : Type 0 where
@@ -180,8 +180,8 @@ module _ {S View : Type 0} (taker : Taker S View) (Fine : S → Type 0) (fit : (
   pub alike-sym : {r s : Run (Side S) View} → Alike r s → Alike s r
   alike-sym a = record { said = sym a.said; side = sym a.side }
 
-  pub alike-trans : {r s t : Run (Side S) View} → Alike r s → Alike s t → Alike r t
-  alike-trans a b = record { said = a.said ∙ b.said; side = a.side ∙ b.side }
+  pub alike_trans : {r s t : Run (Side S) View} → Alike r s → Alike s t → Alike r t
+  alike_trans a b = record { said = a.said ∙ b.said; side = a.side ∙ b.side }
 
   side-goes : (w : Side S) → Good w → (b : ℕ) → is_more (byte_outcome w.decoder (length w.buffer) b) ≡ true → (received taker w (b ∷ [])).side ≡ past w b
   side-goes w g b e =
@@ -205,7 +205,7 @@ module _ {S View : Type 0} (taker : Taker S View) (Fine : S → Type 0) (fit : (
       (sym (received-goes w g b (c ∷ p) e))
       (heard-alike r.answer (taker.shows r.side.state) _ _
       (subst (λ (s : Run (Side S) View). Alike s (run_in n (suc k) r.side (drop r.consumed (c ∷ p))))
-      (enough n (suc n) (suc k) r.side (received-good v (past-good w g b) (c ∷ p)) (drop r.consumed (c ∷ p)) (omega (arith, rest-shorter v (past-good w g b) c p)) (omega (arith, rest-shorter v (past-good w g b) c p)))
+      (enough n (suc n) (suc k) r.side (received-good v (past-good w g b) (c ∷ p)) (drop r.consumed (c ∷ p)) (omega (arith, rest_shorter v (past-good w g b) c p)) (omega (arith, rest_shorter v (past-good w g b) c p)))
       (alike_refl _)))
 
   -- A piece in one call after another says and leaves what its bytes one by one do.
@@ -218,7 +218,7 @@ module _ {S View : Type 0} (taker : Taker S View) (Fine : S → Type 0) (fit : (
       by_bool (is_more (byte_outcome w.decoder (length w.buffer) b))
       (λ e.
       rw (by_bytes-goes w g b p e)
-      (alike-trans (run-goes w g b p n k (le_of_suc-le-suc h) e) (piece_bytes p n k (past w b) (past-good w g b) (le_of_suc-le-suc h))))
+      (alike_trans (run-goes w g b p n k (le_of_suc-le-suc h) e) (piece_bytes p n k (past w b) (past-good w g b) (le_of_suc-le-suc h))))
       (λ e.
       rw (received-stops w g b p e, received-one w g b [] e)
       (heard-alike (received taker w (b ∷ [])).answer (taker.shows (received taker w (b ∷ [])).side.state) _ _
@@ -260,8 +260,8 @@ module _ {S View : Type 0} (taker : Taker S View) (Fine : S → Type 0) (fit : (
       }
 
   -- Where bytes are cut changes no answer, state or byte.
-  pub cut-anywhere : (w : Side S) → Good w → (ps qs : List (List ℕ)) → joined ps ≡ joined qs → (k j : ℕ) → Alike (drive taker keep k w ps) (drive taker keep j w qs)
-  cut-anywhere w g ps qs e k j =
+  pub cut_anywhere : (w : Side S) → Good w → (ps qs : List (List ℕ)) → joined ps ≡ joined qs → (k j : ℕ) → Alike (drive taker keep k w ps) (drive taker keep j w qs)
+  cut_anywhere w g ps qs e k j =
       let a : Alike (drive taker keep k w ps) (by_bytes w (joined ps)) = drive-bytes ps k w g in
       let b : Alike (drive taker keep j w qs) (by_bytes w (joined qs)) = drive-bytes qs j w g in
       record {

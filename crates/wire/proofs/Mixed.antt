@@ -17,8 +17,8 @@ use Rattle.wire.specs.Receive.{End, Seen, accepting}
 use Rattle.wire.specs.Batch.{Batch, count, Sendable, Item, message, messages, AllOf, Frame}
 use Rattle.wire.specs.Among.{Came, ours, other, idle, bytes_of, ours_in, AllCame, expected_among}
 use Rattle.wire.proofs.Loop.{Alike, by_bytes, length_push}
-use Rattle.wire.proofs.Frames.{waiting, deliver-one, deliver-front, idle-zero}
-use Rattle.wire.proofs.Sums.{all-of-append}
+use Rattle.wire.proofs.Frames.{waiting, deliver-one, deliver-front, idle_zero}
+use Rattle.wire.proofs.Sums.{all_of_append}
 use Rattle.wire.proofs.Receiving.{Holding, after_all, message-long, shows-held, accepts}
 use Rattle.wire.proofs.Others.{refuses}
 use Rattle.wire.proofs.Accepting.{Fine, fit, keeps, answers}
@@ -60,7 +60,7 @@ module _ (b : Batch) (can : Sendable b) (n : ℕ) (slotted : count b * 16 ≤ n)
       let m : List ℕ = message b f in
       let c = accepts b can n slotted l a f g.0 e h q long in
       let r =
-      mixed cs g.1 (l ++ f) (all-of-append b l f a g.0.ours) (over m buffer) (length_over m buffer ∙ lb) (accepting.after e m) c.holds c.good c.long in
+      mixed cs g.1 (l ++ f) (all_of_append b l f a g.0.ours) (over m buffer) (length_over m buffer ∙ lb) (accepting.after e m) c.holds c.good c.long in
       rw (append_assoc (encode m) (0 ∷ bytes_of b cs) p)
       (left-alike l (ours f ∷ cs) e (deliver-one accepting Fine fit keeps answers buffer e (fine e q long) m (bytes_of b cs ++ p) (frame-fits b can f g.0 buffer lb))
       (record {
@@ -85,5 +85,5 @@ module _ (b : Batch) (can : Sendable b) (n : ℕ) (slotted : count b * 16 ≤ n)
       }))
   mixed (idle ∷ cs) g l a buffer lb e h q long =
       let r = mixed cs g l a buffer lb e h q long in
-      rw (idle-zero accepting Fine fit keeps answers buffer e (fine e q long) (bytes_of b cs ++ p))
+      rw (idle_zero accepting Fine fit keeps answers buffer e (fine e q long) (bytes_of b cs ++ p))
       (record { says = r.says; state = r.state; decoder = r.decoder; long = r.long })

@@ -10,7 +10,7 @@ use Rattle.wire.specs.Demand3.{Delivery, Premises, started, hand}
 use Rattle.wire.specs.Among.{bytes_of, Among}
 use Rattle.wire.specs.Noise.{AllRefused, opened_early, noise_run, Noisy, Unmoved}
 use Rattle.wire.proofs.Loop.{Good, by_bytes, bytes-append, drive-bytes}
-use Rattle.wire.proofs.Restart.{bytes-through, bytes-zero, bytes-kept}
+use Rattle.wire.proofs.Restart.{bytes-through, bytes_zero, bytes-kept}
 use Rattle.wire.proofs.Frames.{waiting}
 use Rattle.wire.proofs.Accepting.{Fine, fit, keeps, answers, kept}
 use Rattle.wire.proofs.Table.{unseen}
@@ -48,7 +48,7 @@ module _ (d : Delivery) (p : Premises d) (a : Among d) (n : Noisy d a) where
   -- the side waits for a frame, with the receiver as it was opened
   waits : (over side noise).side ≡ waiting accepting Fine fit keeps answers left (started d).state
   waits =
-      ap₂ (λ (x : CobsDecoder) (e : End). record { decoder = x; buffer = left; state = e }) (bytes-zero accepting Fine fit keeps n.bytes side good) still
+      ap₂ (λ (x : CobsDecoder) (e : End). record { decoder = x; buffer = left; state = e }) (bytes_zero accepting Fine fit keeps n.bytes side good) still
 
   pub unmoved : Unmoved d a n
   unmoved = record {

@@ -16,7 +16,7 @@ use Rattle.batch.specs.declared.Answer.{Answer}
 use Rattle.batch.specs.declared.Answer.TheVariants.{Ahead, Stale}
 use Rattle.batch.specs.declared.judge.Verdict.{Verdict}
 use Rattle.batch.specs.declared.judge.Verdict.TheVariants.{Refuse}
-use Rattle.batch.proofs.Good.{Good, not-bad}
+use Rattle.batch.proofs.Good.{Good, not_bad}
 use Rattle.dec.proofs.Cases.{by_bool}
 use Rattle.wire.specs.Receive.{End, accepting}
 use Rattle.wire.specs.Batch.{Batch, Item, particle, close, record_of, IsOf, message, Frame}
@@ -44,11 +44,11 @@ module _ (b o : Batch) (small : b.number < 65536) (x : Other b o) where
   record-refused r e t (particle i) q s = rw (reads o x.sendable (particle i) q s, e) (class-refuses _)
   record-refused r e t close q s = rw (reads o x.sendable close q s, e) (class-refuses _)
 
-  records-refused : (f : List Item) → Frame o f → (r : Receiver) → r.batch ≡ b.number → (t : List ℕ)
+  records_refused : (f : List Item) → Frame o f → (r : Receiver) → r.batch ≡ b.number → (t : List ℕ)
       → take_all (length f) 0 r t (message o f) ≡ refused answer
   unfolding take_all message
-  records-refused [] g r e t = absurd (not-suc-le-zero g.some)
-  records-refused (item ∷ f) g r e t = rw (record-refused r e t item g.ours.0 (message o f))
+  records_refused [] g r e t = absurd (not-suc-le-zero g.some)
+  records_refused (item ∷ f) g r e t = rw (record-refused r e t item g.ours.0 (message o f))
 
   pub record Refuses (f : List Item) (e : End) : Type 0 where
     pub says : accepting.says e (message o f) ≡ refusal o.number b.number
@@ -59,6 +59,6 @@ module _ (b o : Batch) (small : b.number < 65536) (x : Other b o) where
   refuses f g e h q =
       let c : length f * 16 / 16 ≡ length f = omega arith in
       let r : outcome e.receiver e.table (message o f) ≡ refused answer =
-      rw (not-bad e.receiver (length e.table) q, message-long o x.sendable f g.ours, good_length (length f) g.some g.most, c)
-      (records-refused f g e.receiver h e.table) in
+      rw (not_bad e.receiver (length e.table) q, message-long o x.sendable f g.ours, good_length (length f) g.some g.most, c)
+      (records_refused f g e.receiver h e.table) in
       record { says = rw r answer-told; leaves = rw r refl }

@@ -19,13 +19,13 @@ use Rattle.batch.specs.State.{marked_in, stand_told, stands_told}
 use Rattle.batch.specs.Verdict.{after, stored}
 use Rattle.batch.specs.Frame.{taken, take_all, outcome, accept_told, accept_next, accept_table}
 use Rattle.batch.specs.declared.Receiver.{Receiver}
-use Rattle.batch.proofs.Good.{Good, not-bad, good-all}
+use Rattle.batch.proofs.Good.{Good, not_bad, good-all}
 use Rattle.batch.proofs.Effects.{stored-length}
 use Rattle.dec.proofs.Cases.{by_bool}
 use Rattle.wire.specs.Receive.{End, accepting}
 use Rattle.wire.specs.Batch.{Batch, count, weight_at, total, Sendable, Item, record_of, message, AllOf, Frame, Frames, messages, has, has_close, arrived_count, arrived_total, due, expected}
 use Rattle.wire.specs.Afterwards.{items}
-use Rattle.wire.proofs.Sums.{sum_same, has-none, all-of-append}
+use Rattle.wire.proofs.Sums.{sum_same, has-none, all_of_append}
 use Rattle.wire.proofs.Filled.{Filled}
 use Rattle.wire.proofs.Arrived.{Held, takes, record-long}
 
@@ -76,7 +76,7 @@ module _ (b : Batch) (can : Sendable b) where
     take_all-took (item ∷ f) a k l c r h t =
         let s : List ℕ = written_bytes 0 (record_of b item) ++ message b f in
         let o = takes b can n slotted l r h k t item a.0 c (message b f) in
-        let go = take_all-took f a.1 (suc k) (l ++ item ∷ []) (all-of-append b l (item ∷ []) c (a.0, tt)) (after o.effect r) o.held (stored o.effect t s) in
+        let go = take_all-took f a.1 (suc k) (l ++ item ∷ []) (all_of_append b l (item ∷ []) c (a.0, tt)) (after o.effect r) o.held (stored o.effect t s) in
         record {
           receiver = go.receiver;
           table = go.table;
@@ -100,8 +100,8 @@ module _ (b : Batch) (can : Sendable b) where
           ∙ omega (arith, count_none (λ s. has (count b + s) l) (4096 - count b) (λ j k. has-none b l a (count b + j) (omega arith)))
 
       -- all N arrived: the whole weight
-      all-weigh : count b ≤ arrived_count b l → arrived_total b l ≡ total b
-      all-weigh q =
+      all_weigh : count b ≤ arrived_count b l → arrived_total b l ≡ total b
+      all_weigh q =
           let e : arrived_count b l ≡ count b = omega (arith, count-both (λ i. has i l) (count b)) in
           sum_same (λ i. if has i l then weight_at b i else 0) (weight_at b) (count b) (λ j k. rw (all-counted (λ i. has i l) (count b) e j k))
 
@@ -113,14 +113,14 @@ module _ (b : Batch) (can : Sendable b) where
           (λ e.
           rw e
           (by_bool (ltb (arrived_count b l) (count b)) (λ m. rw m)
-          (λ m. rw (m, eq-eqb (arrived_total b l) (total b) (all-weigh (ltb-false (arrived_count b l) (count b) m))))))
+          (λ m. rw (m, eq-eqb (arrived_total b l) (total b) (all_weigh (ltb-false (arrived_count b l) (count b) m))))))
           (λ e. rw e))
 
     -- ---- a whole frame
 
     stands_good : (r : Receiver) → Good r n → stands_told r n ≡ stand_told r
     unfolding stands_told
-    stands_good r g = rw (not-bad r n g)
+    stands_good r g = rw (not_bad r n g)
 
     -- what is seen of a receiver that holds these
     pub shows-held : (l : List Item) → AllOf b l → (e : End) → Holding l e.receiver → Good e.receiver n → length e.table ≡ n
@@ -143,8 +143,8 @@ module _ (b : Batch) (can : Sendable b) where
         let t = take_all-took f g.ours 0 l a e.receiver h e.table in
         let c : length f * 16 / 16 ≡ length f = omega arith in
         let o : outcome e.receiver e.table (message b f) ≡ taken t.receiver t.table =
-        rw (long, not-bad e.receiver n q, m, good_length (length f) g.some g.most, c) t.took in
-        let all : AllOf b (l ++ f) = all-of-append b l f a g.ours in
+        rw (long, not_bad e.receiver n q, m, good_length (length f) g.some g.most, c) t.took in
+        let all : AllOf b (l ++ f) = all_of_append b l f a g.ours in
         let k : Good t.receiver n = good-all (length f) 0 e.receiver e.table (message b f) t.receiver t.table n t.took q in
         let d : stand_told t.receiver ≡ due b (l ++ f) = stands-due (l ++ f) all t.receiver t.holds in
         record {
@@ -170,7 +170,7 @@ module _ (b : Batch) (can : Sendable b) where
     }
     course (f ∷ fs) g l a e h q long =
         let c = accepts l a f g.0 e h q long in
-        let go = course fs g.1 (l ++ f) (all-of-append b l f a g.0.ours) (accepting.after e (message b f)) c.holds c.good c.long in
+        let go = course fs g.1 (l ++ f) (all_of_append b l f a g.0.ours) (accepting.after e (message b f)) c.holds c.good c.long in
         record {
           holds = rw (← append_assoc l f (items fs)) go.holds;
           fills = λ t₀ x. rw (← append_assoc l f (items fs)) (go.fills t₀ (c.fills t₀ x));

@@ -12,7 +12,7 @@ use borrow.Author.Tests.{eqb-true}
 use Rattle.cobs.specs.Answers.{Told, more, is_done}
 use Rattle.dec.specs.Stream.{Outcome, new, push_outcome, push_dest}
 use Rattle.dec.proofs.Cases.{by_bool}
-use Rattle.dec.proofs.Restart.{through, through-zero}
+use Rattle.dec.proofs.Restart.{through, through_zero}
 use Rattle.wire.specs.Again.{Received, Run, heard}
 use Rattle.wire.specs.Loop.{Side, Taker, hand_on, received}
 use Rattle.wire.specs.Noise.{AllRefused}
@@ -48,8 +48,8 @@ module _ {S View : Type 0} (taker : Taker S View) (Fine : S → Type 0) (fit : (
         long = go.long ∙ l;
       })
 
-  pub bytes-zero : (s : List ℕ) (w : Side S) → Good taker Fine fit keeps w → (by_bytes taker Fine fit keeps w (s ++ 0 ∷ [])).side.decoder ≡ new
-  bytes-zero s w g = (bytes-through (s ++ 0 ∷ []) w g).decoder ∙ through-zero s w.decoder (length w.buffer) g.decoding
+  pub bytes_zero : (s : List ℕ) (w : Side S) → Good taker Fine fit keeps w → (by_bytes taker Fine fit keeps w (s ++ 0 ∷ [])).side.decoder ≡ new
+  bytes_zero s w g = (bytes-through (s ++ 0 ∷ []) w g).decoder ∙ through_zero s w.decoder (length w.buffer) g.decoding
 
   -- ---- where every answer is a refusal
 

@@ -12,7 +12,7 @@ use Rattle.cobs.proofs.Encoding.{encode-length, overhead-max}
 use Rattle.record.specs.Record.{written_bytes}
 use Rattle.record.specs.Frame as writer
 use Rattle.record.specs.Frame.{records_told, message_told, frame_told, frame_dest}
-use Rattle.record.proofs.Framing.{writes-fits}
+use Rattle.record.proofs.Framing.{writes_fits}
 use Rattle.record.proofs.Round.{read_is}
 use Rattle.wire.specs.Loop.{framed}
 use Rattle.wire.specs.Batch.{Batch, Sendable, Item, record_of, message, AllOf, Frame, Frames}
@@ -42,7 +42,7 @@ module _ (b : Batch) (can : Sendable b) where
       → (done (length (encode (message b f)) + 1) 0 ≡ frame_told (message b f) (length d)) × (over (framed (message b f ∷ [])) d ≡ frame_dest (message b f) d)
   unfolding writer.framed
   sends f g d h =
-      writes-fits (message b f) d (message-good f g)
+      writes_fits (message b f) d (message-good f g)
       (omega (arith, encode-length (message b f), overhead-max (length (message b f)), message-long b can f g.ours, g.most))
 
 -- ---- what the wire does with what was sent

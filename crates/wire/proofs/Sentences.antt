@@ -25,9 +25,9 @@ module _ (w : Side End) where
     taking = batch.good w.state.receiver (length w.state.table) g.receiver.words g.receiver.state;
   }
 
-  of-good : Good accepting Fine fit keeps w → NotBad w
+  of_good : Good accepting Fine fit keeps w → NotBad w
   unfolding Fine
-  of-good g = record {
+  of_good g = record {
     decoder = g.decoding;
     receiver = record { state = fit w.state g.taking; words = g.taking.words };
   }
@@ -51,7 +51,7 @@ module _ (w : Side End) where
 
   module _ (p : List ℕ) where
     receives-good : NotBad w → NotBad (received accepting w p).side
-    receives-good g = of-good (received accepting w p).side (received-good accepting Fine fit keeps w (good_of w g) p)
+    receives-good g = of_good (received accepting w p).side (received-good accepting Fine fit keeps w (good_of w g) p)
 
     buffer-length : length (received accepting w p).side.buffer ≡ length w.buffer
     unfolding received
@@ -73,8 +73,8 @@ module _ (w : Side End) where
         by_bool (accepting.is_bad w.state) (λ t. rw (q, t) refl)
         (λ t. rw (q, t) (hand-length (push_outcome w.decoder (length w.buffer) p) (push_dest w.decoder p w.buffer))))
 
-pub wire-never-bad : NeverBad
-wire-never-bad = record {
+pub wire_never-bad : NeverBad
+wire_never-bad = record {
   opens = λ batch buffer table. record { decoder = new-good (length buffer); receiver = never-bad.opens batch table };
   receives = λ w p g. receives-good w p g;
   buffer = buffer-length;

@@ -26,10 +26,10 @@ sum-new f g i (suc n) h z same =
       | no d ↦ omega (arith, same n d, sum-new f g i n (omega arith) z same)
     ]
 
-pub sum-zero : (f : ℕ → ℕ) (n : ℕ) → ((j : ℕ) → f j ≡ 0) → sum_below f n ≡ 0
+pub sum_zero : (f : ℕ → ℕ) (n : ℕ) → ((j : ℕ) → f j ≡ 0) → sum_below f n ≡ 0
 unfolding sum_below
-sum-zero f zero h = refl
-sum-zero f (suc n) h = omega (arith, sum-zero f n h, h n)
+sum_zero f zero h = refl
+sum_zero f (suc n) h = omega (arith, sum_zero f n h, h n)
 
 pub sum-most : (f : ℕ → ℕ) (most n : ℕ) → ((j : ℕ) → j < n → f j ≤ most) → sum_below f n ≤ n * most
 unfolding sum_below
@@ -79,6 +79,6 @@ has-none b [] h i k = refl
 has-none b (particle j ∷ l) h i k = rw (ne_eqb i j (λ e. omega (arith, h.0))) (has-none b l h.1 i k)
 has-none b (close ∷ l) h i k = has-none b l h.1 i k
 
-pub all-of-append : (b : Batch) (l m : List Item) → AllOf b l → AllOf b m → AllOf b (l ++ m)
-all-of-append b [] m h k = k
-all-of-append b (item ∷ l) m h k = (h.0, all-of-append b l m h.1 k)
+pub all_of_append : (b : Batch) (l m : List Item) → AllOf b l → AllOf b m → AllOf b (l ++ m)
+all_of_append b [] m h k = k
+all_of_append b (item ∷ l) m h k = (h.0, all_of_append b l m h.1 k)

@@ -3,7 +3,7 @@ use lib.Dec.{eqb}
 use lib.ListN.{length}
 use borrow.Author.Rules.{rules}
 use Rattle.blocks.specs.Blocks.{is_all}
-use Rattle.blocks.proofs.Blocks.{stands-yes, stands-no, sixteen-none, sixteen-some}
+use Rattle.blocks.proofs.Blocks.{stands_yes, stands_no, sixteen-none, sixteen-some}
 use mathlib.Core.Path.{ap}
 use mathlib.Core.Bool.{not}
 use Rattle.blocks.proofs.all16.Goals as goal
@@ -12,13 +12,13 @@ pub returns-then-not-stand : goal.returns-then-not-stand
 unfolding is_all
 returns-then-not-stand c =
     let a = c.args in
-    sixteen-none (λ b. eqb b a.v) a.s.now a.at (stands-no (length a.s.now) a.at c.stand.ensures (ap not c.if-not-stand.true))
+    sixteen-none (λ b. eqb b a.v) a.s.now a.at (stands_no (length a.s.now) a.at c.stand.ensures (ap not c.if-not-stand.true))
 
 pub read16-requires : goal.read16-requires
-read16-requires c = stands-yes _ _ c.stand.ensures (ap not c.if-not-stand.false)
+read16-requires c = stands_yes _ _ c.stand.ensures (ap not c.if-not-stand.false)
 
 pub returns : goal.returns
 unfolding is_all
 returns c =
     let a = c.args in
-    sixteen-some (λ b. eqb b a.v) a.s.now a.at (stands-yes _ _ c.stand.ensures (ap not c.if-not-stand.false)) c.read16.result c.read16.ensures c.any_unlike.result c.any_unlike.ensures
+    sixteen-some (λ b. eqb b a.v) a.s.now a.at (stands_yes _ _ c.stand.ensures (ap not c.if-not-stand.false)) c.read16.result c.read16.ensures c.any_unlike.result c.any_unlike.ensures

@@ -3,7 +3,7 @@ use mathlib.Core.Path.{sym, ◌∙◌}
 use Prim.Native.Nat.{◌+◌, ◌≤◌}
 use lib.ListN.{length}
 use borrow.Author.Rules.{rules}
-use Rattle.blocks.proofs.Blocks.{stands-yes, stands-no, filled-fits, filled-dest}
+use Rattle.blocks.proofs.Blocks.{stands_yes, stands_no, filled-fits, filled-dest}
 use mathlib.Core.Path.{ap}
 use mathlib.Core.Bool.{not}
 use Rattle.blocks.proofs.fill16.Goals as goal
@@ -11,13 +11,13 @@ use Rattle.blocks.proofs.fill16.Goals as goal
 pub returns-then-not-stand : goal.returns-then-not-stand
 returns-then-not-stand c =
     let a = c.args in
-    filled-dest a.dest.now a.at a.v (stands-no (length a.dest.now) a.at c.stand.ensures (ap not c.if-not-stand.true))
+    filled-dest a.dest.now a.at a.v (stands_no (length a.dest.now) a.at c.stand.ensures (ap not c.if-not-stand.true))
 
 -- sixteen bytes stand
 pub write16-requires : goal.write16-requires
-write16-requires c = stands-yes _ _ c.stand.ensures (ap not c.if-not-stand.false)
+write16-requires c = stands_yes _ _ c.stand.ensures (ap not c.if-not-stand.false)
 
 pub returns : goal.returns
 returns c =
     let a = c.args in
-    c.write16.ensures ∙ sym (filled-fits a.dest.now a.at a.v (stands-yes _ _ c.stand.ensures (ap not c.if-not-stand.false)))
+    c.write16.ensures ∙ sym (filled-fits a.dest.now a.at a.v (stands_yes _ _ c.stand.ensures (ap not c.if-not-stand.false)))

@@ -1,7 +1,7 @@
 -- `marks::bit` meets its contract. Assumes nothing.
 use borrow.Author.Rules.{rules}
-use Rattle.marks.proofs.Bits.{shift-mask}
+use Rattle.marks.proofs.Bits.{shift_mask}
 use Rattle.marks.proofs.bit.Goals as goal
 
 pub returns : goal.returns
-returns c = shift-mask c.args.w c.args.s
+returns c = shift_mask c.args.w c.args.s

@@ -5,7 +5,7 @@ use Prim.Native.Nat.{ℕ, ◌+◌, ◌-◌, ◌*◌, ◌≤◌}
 use native.Mathlib.Omega.{arith}
 use borrow.Author.Rules.{rules}
 use Rattle.marks.specs.Marks.{count_below, marked_below}
-use Rattle.marks.proofs.Below.{below-le}
+use Rattle.marks.proofs.Below.{below_le}
 use Rattle.marks.proofs.Words.{one_word_more}
 use Rattle.marks.proofs.count_words.Goals as goal
 
@@ -24,7 +24,7 @@ unfolding marked_below count_below
 loop-k-init c = (omega arith, refl)
 
 pub overflow_add-sum : goal.overflow_add-sum
-overflow_add-sum c = omega (arith, turn c, below-le (passed c) (64 * next c))
+overflow_add-sum c = omega (arith, turn c, below_le (passed c) (64 * next c))
 
 pub loop-k-preserved : goal.loop-k-preserved
 loop-k-preserved c = (omega arith, turn c)

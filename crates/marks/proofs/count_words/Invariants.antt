@@ -5,7 +5,7 @@ use Prim.Native.Nat.{ℕ, ◌+◌, ◌-◌, ◌*◌, ◌≤◌}
 use native.Mathlib.Omega.{arith}
 use borrow.Author.Rules.{rules}
 use Rattle.marks.specs.Marks.{count_below, marked_below}
-use Rattle.marks.proofs.Below.{below-le}
+use Rattle.marks.proofs.Below.{below_le}
 use Rattle.marks.proofs.Words.{one_word_more}
 use Rattle.marks.proofs.count_words.Given as goal
 

@@ -1,7 +1,7 @@
 -- `marks::with_bit` meets its contract. Assumes nothing.
 use borrow.Author.Rules.{rules}
-use Rattle.marks.proofs.Bits.{one_shifted, or-bit}
+use Rattle.marks.proofs.Bits.{one_shifted, or_bit}
 use Rattle.marks.proofs.with_bit.Goals as goal
 
 pub returns : goal.returns
-returns c = rw (one_shifted c.args.s c.requires) (or-bit c.args.w c.args.s)
+returns c = rw (one_shifted c.args.s c.requires) (or_bit c.args.w c.args.s)

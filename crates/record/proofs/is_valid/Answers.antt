@@ -1,5 +1,5 @@
 -- `record::is_valid` meets its contract. Assumes nothing.
-use Rattle.record.proofs.Valid.{valid-board, valid-particle, valid-kind, valid-count, valid-x, valid-y, valid-z}
+use Rattle.record.proofs.Valid.{valid-board, valid-particle, valid_kind, valid-count, valid-x, valid-y, valid-z}
 use Rattle.record.proofs.is_valid.Goals as goal
 
 pub returns-then-f-ne0 : goal.returns-then-f-ne0
@@ -9,7 +9,7 @@ pub returns-then-f-eq1 : goal.returns-then-f-eq1
 returns-then-f-eq1 c = search (valid-particle)
 
 pub returns-then-f-ne2 : goal.returns-then-f-ne2
-returns-then-f-ne2 c = search (valid-kind)
+returns-then-f-ne2 c = search (valid_kind)
 
 pub returns-then-f-gt-MOST_PARTICLES : goal.returns-then-f-gt-MOST_PARTICLES
 returns-then-f-gt-MOST_PARTICLES c = search (valid-count)

@@ -1,7 +1,7 @@
 -- `wire::receive` meets its contract. Assumes nothing.
 use mathlib.Core.Path.{sym, ◌∙◌}
 use lib.Seq.{length-take-le}
-use Rattle.wire.proofs.Calls.{call-bad, call-more, call-invalid, call-small, call-state, frame-room, call-frame}
+use Rattle.wire.proofs.Calls.{call-bad, call-more, call_invalid, call-small, call-state, frame-room, call-frame}
 use borrow.Enum.Refused.{opened}
 use Rattle.wire.proofs.receive.Goals as goal
 
@@ -23,7 +23,7 @@ returns-in-More c =
 
 pub returns-in-InvalidFrame : goal.returns-in-InvalidFrame
 returns-in-InvalidFrame c =
-    call-invalid c.args.wire c.args.buffer.now c.args.table.now c.args.piece.now c.stands-standing.result c.stands-standing.ensures (opened c.in_default.in_default-own.keys2) c.push-pushed.result _ c.push-pushed.ensures.answer c.push-pushed.ensures.memory _ _ c.in-InvalidFrame.is c.handed-in-InvalidFrame.result c.handed-in-InvalidFrame.ensures
+    call_invalid c.args.wire c.args.buffer.now c.args.table.now c.args.piece.now c.stands-standing.result c.stands-standing.ensures (opened c.in_default.in_default-own.keys2) c.push-pushed.result _ c.push-pushed.ensures.answer c.push-pushed.ensures.memory _ _ c.in-InvalidFrame.is c.handed-in-InvalidFrame.result c.handed-in-InvalidFrame.ensures
 
 pub returns-in-TargetBufTooSmall : goal.returns-in-TargetBufTooSmall
 returns-in-TargetBufTooSmall c =

@@ -1,5 +1,5 @@
 -- `batch::judge::close` meets its contract. Assumes nothing.
-use Rattle.batch.proofs.Ways.{close-room, close-count, close-total, close-repeat, close-marked, close-new}
+use Rattle.batch.proofs.Ways.{close-room, close-count, close-total, close_repeat, close-marked, close-new}
 use Rattle.batch.proofs.judge.close.Goals as goal
 
 pub returns-then-count-r : goal.returns-then-count-r
@@ -12,7 +12,7 @@ pub returns-then-sum-total : goal.returns-then-sum-total
 returns-then-sum-total c = search (close-total)
 
 pub returns-in-Taken : goal.returns-in-Taken
-returns-in-Taken c = search (close-repeat)
+returns-in-Taken c = search (close_repeat)
 
 pub returns-then-marked-count_below : goal.returns-then-marked-count_below
 returns-then-marked-count_below c = search (close-marked)

@@ -1,5 +1,5 @@
 -- `batch::judge::particle` meets its contract. Assumes nothing.
-use Rattle.batch.proofs.Ways.{particle-room, particle-beyond, particle-repeat, particle-store}
+use Rattle.batch.proofs.Ways.{particle-room, particle-beyond, particle_repeat, particle-store}
 use Rattle.batch.proofs.judge.particle.Goals as goal
 
 pub returns-then-index-r : goal.returns-then-index-r
@@ -9,7 +9,7 @@ pub returns-then-index-limit : goal.returns-then-index-limit
 returns-then-index-limit c = search (particle-beyond)
 
 pub returns-then-is_marked : goal.returns-then-is_marked
-returns-then-is_marked c = search (particle-repeat)
+returns-then-is_marked c = search (particle_repeat)
 
 pub returns : goal.returns
 returns c =

@@ -1,6 +1,6 @@
 -- `batch::state::is_bad` meets its contract. Assumes nothing.
 use native.Mathlib.Omega.{arith}
-use Rattle.marks.proofs.Below.{below-le}
+use Rattle.marks.proofs.Below.{below_le}
 use Rattle.batch.proofs.Ways.{bad-table, bad-slots, bad-mark, bad-close, bad-total}
 use Rattle.batch.proofs.state.is_bad.Goals as goal
 
@@ -17,10 +17,10 @@ pub returns-then-limit-r : goal.returns-then-limit-r
 returns-then-limit-r c = search (bad-close)
 
 pub overflow_cast-result : goal.overflow_cast-result
-overflow_cast-result c = omega (arith, below-le c.args.r.marks 4096)
+overflow_cast-result c = omega (arith, below_le c.args.r.marks 4096)
 
 pub overflow_mul-result : goal.overflow_mul-result
-overflow_mul-result c = omega (arith, below-le c.args.r.marks 4096)
+overflow_mul-result c = omega (arith, below_le c.args.r.marks 4096)
 
 pub returns : goal.returns
 returns c = search (bad-total)

@@ -1,11 +1,11 @@
 -- `dec::decode::decode` meets its contract: a law for each way through it. Assumes nothing.
 use Rattle.dec.proofs.Answers.{not_more}
-use Rattle.dec.proofs.Decoding.{decode-empty, decode-stopped, decode-frame, decode-other}
+use Rattle.dec.proofs.Decoding.{decode_empty, decode-stopped, decode-frame, decode-other}
 use Rattle.dec.proofs.decode.decode.Goals as goal
 
 pub returns-then-src-eq0 : goal.returns-then-src-eq0
 returns-then-src-eq0 c =
-    let both = decode-empty _ _ c.if-src-eq0.true in
+    let both = decode_empty _ _ c.if-src-eq0.true in
     record { answer = both.0; memory = both.1 }
 
 pub returns-in_default : goal.returns-in_default

@@ -6,14 +6,14 @@ use native.Mathlib.Omega.{arith}
 use lib.ListN.{length}
 use borrow.Author.Tests.{not-false}
 use Rattle.blocks.specs.Blocks.{is_clear}
-use Rattle.blocks.proofs.Blocks.{clear-says}
-use Rattle.dec.proofs.Sixteen.{blocks-first, block-stands, block-turn}
+use Rattle.blocks.proofs.Blocks.{clear_says}
+use Rattle.dec.proofs.Sixteen.{blocks_first, block-stands, block-turn}
 use Rattle.dec.proofs.fast.by_sixteen.Goals as goal
 use Rattle.dec.proofs.fast.by_sixteen.Goals.{then-code-eq255+else-left-lt16, else-code-eq255}
 
 pub loop-dest-init : goal.loop-dest-init
 loop-dest-init c =
-    blocks-first _ _ _ _ _ _ c.requires.from_in_bounds.0 c.requires.from_in_bounds.1 c.requires.bytes
+    blocks_first _ _ _ _ _ _ c.requires.from_in_bounds.0 c.requires.from_in_bounds.1 c.requires.bytes
 
 pub overflow_sub-dest : goal.overflow_sub-dest
 overflow_sub-dest c = omega (arith, c.loop-dest.invariant.room, c.loop-dest.invariant.ahead.long)
@@ -23,7 +23,7 @@ codes-after-requires c =
     let clear : is_clear c.args.piece.now c.loop-dest.i ≡ true = sym c.clear16.ensures ∙ not-false _ (ap not c.if-not-clear16.false) in
     record {
       i_in_bounds = block-stands _ _ _ _ _ _ _ _ _ _ _ c.loop-dest.invariant c.loop-dest-test.true clear _ c.copy16.ensures;
-      clear = (clear-says _ _ clear).1;
+      clear = (clear_says _ _ clear).1;
       bytes = c.loop-dest.invariant.bytes;
       le_left = λ w. elim c.if-code-eq255.branch [ then-code-eq255+else-left-lt16 v ↦ omega arith | else-code-eq255 v ↦ omega arith ];
     }

@@ -2,12 +2,12 @@
 use mathlib.Core.Path.{◌≡◌, sym, ◌∙◌}
 use Prim.Native.Nat.{◌≤◌}
 use native.Mathlib.Omega.{arith}
-use Rattle.dec.proofs.Sixteen.{patch-first, patch-code, patch-last}
+use Rattle.dec.proofs.Sixteen.{patch_first, patch_code, patch_last}
 use Rattle.dec.proofs.fast.each_code.Goals as goal
 
 pub loop-q-init : goal.loop-q-init
 loop-q-init c =
-    patch-first _ _ _ _ _ _ c.requires.i_in_bounds.0 c.requires.i_in_bounds.1 c.requires.clear c.requires.bytes c.requires.le_left
+    patch_first _ _ _ _ _ _ c.requires.i_in_bounds.0 c.requires.i_in_bounds.1 c.requires.clear c.requires.bytes c.requires.le_left
 
 pub overflow_add-dest : goal.overflow_add-dest
 overflow_add-dest c = omega (arith, c.requires.i_in_bounds.1)
@@ -31,7 +31,7 @@ loop-q-smaller c =
 
 pub loop-q-preserved : goal.loop-q-preserved
 loop-q-preserved c =
-    patch-code _ _ _ _ _ _ c.requires.i_in_bounds.0 c.requires.i_in_bounds.1 c.requires.clear _ _ _ c.loop-q.invariant c.loop-q-test.true _ c.wide-c.ensures.0 c.wide-c.ensures.1
+    patch_code _ _ _ _ _ _ c.requires.i_in_bounds.0 c.requires.i_in_bounds.1 c.requires.clear _ _ _ c.loop-q.invariant c.loop-q-test.true _ c.wide-c.ensures.0 c.wide-c.ensures.1
 
 pub shape_of-dest : goal.shape_of-dest
 shape_of-dest c = c.loop-q.invariant.long
@@ -39,4 +39,4 @@ shape_of-dest c = c.loop-q.invariant.long
 pub returns : goal.returns
 returns c =
     let h : 16 ≤ c.loop-q.q = omega (arith, c.loop-q-test.false) in
-    record { group = record { code = c.loop-q.invariant.code; few = omega (arith, c.loop-q.invariant.few) }; decoded = patch-last _ _ _ _ _ _ c.requires.i_in_bounds.0 c.requires.i_in_bounds.1 c.requires.clear _ _ _ c.loop-q.invariant h }
+    record { group = record { code = c.loop-q.invariant.code; few = omega (arith, c.loop-q.invariant.few) }; decoded = patch_last _ _ _ _ _ _ c.requires.i_in_bounds.0 c.requires.i_in_bounds.1 c.requires.clear _ _ _ c.loop-q.invariant h }

@@ -1,6 +1,6 @@
 -- `dec::stream::run` meets its contract. Assumes nothing.
 use native.Mathlib.Omega.{arith}
-use Rattle.dec.proofs.Inside.{to-numbers}
+use Rattle.dec.proofs.Inside.{to_numbers}
 use Rattle.dec.proofs.stream.run.Goals as goal
 
 pub returns : goal.returns
@@ -9,5 +9,5 @@ returns c =
     let f = c.from_numbers.ensures in
     record {
       within = (omega (arith, f.0, s.ensures.within), omega (arith, f.0, s.ensures.within, c.bytes-k.ensures.few, c.least-most.ensures, c.least.ensures));
-      decoded = to-numbers _ _ _ _ _ _ _ _ _ _ s.ensures.decoded (c.bytes-k.ensures.decoded s.result.code s.result.left c.least-most.ensures.0) _ f.0 _ f.1;
+      decoded = to_numbers _ _ _ _ _ _ _ _ _ _ s.ensures.decoded (c.bytes-k.ensures.decoded s.result.code s.result.left c.least-most.ensures.0) _ f.0 _ f.1;
     }

@@ -3,10 +3,10 @@ use mathlib.Core.Path.{sym, ◌∙◌}
 use Prim.Native.Nat.{◌+◌, ◌≤◌}
 use native.Mathlib.Omega.{arith}
 use lib.ListN.{length}
-use Rattle.blocks.proofs.Blocks.{taken-is-clear, taken-is-zeros}
+use Rattle.blocks.proofs.Blocks.{taken_is_clear, taken_is_zeros}
 use Rattle.enc.specs.Fast.{Open, Kept}
 use Rattle.enc.proofs.Opens.{room, kept_on, inside}
-use Rattle.enc.proofs.Turns.{block-open, block-kept, block-clear, block-zeros}
+use Rattle.enc.proofs.Turns.{block-open, block-kept, block_clear, block-zeros}
 use Rattle.enc.proofs.fast.block.Goals as goal
 
 -- the sixteen bytes are copied
@@ -19,7 +19,7 @@ returns-in-Clear c =
     let room_here : a.out + 16 ≤ length a.dest.now = omega (arith, room a.src.now a.i a.place a.out 0 a.dest.now c.requires.0, c.requires.0.fits, c.requires.1) in
     let open_here : Open c.args.src.now c.args.i c.args.place c.args.out 16 c.take16-taken.new.dest = block-open _ _ _ _ _ c.requires.0 c.requires.1 _ c.take16-taken.ensures.memory in
     record {
-      next = (block-clear _ _ _ _ _ open_here c.requires.2 (taken-is-clear _ _ c.requires.1 _ _ room_here (sym c.take16-taken.ensures.answer ∙ c.in-Clear.is)), c.requires.2);
+      next = (block_clear _ _ _ _ _ open_here c.requires.2 (taken_is_clear _ _ c.requires.1 _ _ room_here (sym c.take16-taken.ensures.answer ∙ c.in-Clear.is)), c.requires.2);
       kept = block-kept _ _ _ _ _ c.requires.0 c.requires.1 _ c.take16-taken.ensures.memory;
     }
 
@@ -46,7 +46,7 @@ shape_of-dest-in-Zeros c =
     let open_here : Open c.args.src.now c.args.i c.args.place c.args.out 16 c.take16-taken.new.dest = block-open _ _ _ _ _ c.requires.0 c.requires.1 _ c.take16-taken.ensures.memory in
     let zeros_here : Open a.src.now (a.i + 16) (a.out + 15) (a.out + 16) 0 c.fill16.new.dest × Kept a.src.now c.take16-taken.new.dest c.fill16.new.dest =
     block-zeros _ _ _ _ _ open_here c.requires.2
-    (taken-is-zeros _ _ c.requires.1 _ _ room_here (sym c.take16-taken.ensures.answer ∙ c.in-Zeros.is)) _ c.fill16.ensures in
+    (taken_is_zeros _ _ c.requires.1 _ _ room_here (sym c.take16-taken.ensures.answer ∙ c.in-Zeros.is)) _ c.fill16.ensures in
     zeros_here.1.long ∙ (block-kept _ _ _ _ _ c.requires.0 c.requires.1 _ c.take16-taken.ensures.memory).long
 
 pub returns-in-Zeros : goal.returns-in-Zeros
@@ -56,7 +56,7 @@ returns-in-Zeros c =
     let open_here : Open c.args.src.now c.args.i c.args.place c.args.out 16 c.take16-taken.new.dest = block-open _ _ _ _ _ c.requires.0 c.requires.1 _ c.take16-taken.ensures.memory in
     let zeros_here : Open a.src.now (a.i + 16) (a.out + 15) (a.out + 16) 0 c.fill16.new.dest × Kept a.src.now c.take16-taken.new.dest c.fill16.new.dest =
     block-zeros _ _ _ _ _ open_here c.requires.2
-    (taken-is-zeros _ _ c.requires.1 _ _ room_here (sym c.take16-taken.ensures.answer ∙ c.in-Zeros.is)) _ c.fill16.ensures in
+    (taken_is_zeros _ _ c.requires.1 _ _ room_here (sym c.take16-taken.ensures.answer ∙ c.in-Zeros.is)) _ c.fill16.ensures in
     record { next = (zeros_here.0, omega arith); kept = kept_on (block-kept _ _ _ _ _ c.requires.0 c.requires.1 _ c.take16-taken.ensures.memory) zeros_here.1 }
 
 pub marks-requires : goal.marks-requires

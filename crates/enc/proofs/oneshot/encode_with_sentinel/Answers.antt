@@ -1,12 +1,12 @@
 -- `enc::oneshot::encode_with_sentinel` meets its contract. Assumes nothing.
 use mathlib.Core.Path.{◌∙◌}
 use Rattle.cobs.specs.OneShot.{chosen}
-use Rattle.enc.proofs.Forms.{most-told, fits-says, small-says, form-long, form_small, form-fits, length-chosen, chosen_is}
+use Rattle.enc.proofs.Forms.{most-told, fits-says, small-says, form_long, form_small, form_fits, length-chosen, chosen_is}
 use Rattle.enc.proofs.oneshot.encode_with_sentinel.Goals as goal
 
 pub returns-in_default : goal.returns-in_default
 returns-in_default c =
-    let both = form-long (chosen _) _ _ _ c.max_encoding_length.ensures c.in_default.is in
+    let both = form_long (chosen _) _ _ _ c.max_encoding_length.ensures c.in_default.is in
     record { answer = both.0; memory = both.1 }
 
 pub room_for-requires : goal.room_for-requires
@@ -28,7 +28,7 @@ returns c =
     fits-says _ _ _ c.room_for.ensures
     c.in-Fits.is in
     let q = c.put-n.ensures in
-    let both = form-fits (chosen _) _ _ _
+    let both = form_fits (chosen _) _ _ _
     c.max_encoding_length.ensures
     _ c.in-Bytes.is (rw length-chosen h) _
     (rw length-chosen q.length) _

@@ -1,6 +1,6 @@
 -- `enc::oneshot::measured` meets its contract. Assumes nothing.
 use native.Mathlib.Omega.{arith}
-use Rattle.enc.proofs.Counted.{count-last, count-zero, count-full}
+use Rattle.enc.proofs.Counted.{count-last, count_zero, count-full}
 use Rattle.enc.proofs.oneshot.measured.Goals as goal
 
 pub loop-start-init : goal.loop-start-init
@@ -22,7 +22,7 @@ pub loop-start-preserved : goal.loop-start-preserved
 loop-start-preserved c =
     let a = c.after_last_zero-next.ensures in
     let k =
-    count-zero c.args.src.now c.loop-start.start c.after_last_zero-next.result
+    count_zero c.args.src.now c.loop-start.start c.after_last_zero-next.result
     (omega (arith, a.after, c.if-next-start.false)) a.before (omega (arith, a.before)) (a.stops (omega (arith, a.after, c.if-next-start.false))) in
     (omega (arith, a.before), omega (arith, a.after), omega (arith, k, c.loop-start.invariant.2, a.after))
 

@@ -3,12 +3,12 @@ use native.Mathlib.Omega.{arith}
 use lib.ListN.{length-take, length-drop, length-set}
 use Rattle.cobs.specs.OneShot.{zeros_around}
 use Rattle.cobs.proofs.Over.{length_over}
-use Rattle.enc.proofs.Forms.{most-told, fits-says, small-says, form-long, form_small, form-fits, length-around, inner-is, length-inner, around-is}
+use Rattle.enc.proofs.Forms.{most-told, fits-says, small-says, form_long, form_small, form_fits, length-around, inner_is, length_inner, around_is}
 use Rattle.enc.proofs.oneshot.try_encode_including_sentinels.Goals as goal
 
 pub returns-in_default : goal.returns-in_default
 returns-in_default c =
-    let both = form-long zeros_around _ _ _ c.max_encoding_length.ensures c.in_default.is in
+    let both = form_long zeros_around _ _ _ c.max_encoding_length.ensures c.in_default.is in
     record { answer = both.0; memory = both.1 }
 
 pub returns-then-dest-lt2 : goal.returns-then-dest-lt2
@@ -39,24 +39,24 @@ pub overflow_add-dest : goal.overflow_add-dest
 overflow_add-dest c = omega (arith, c.put-n.ensures.length, (fits-says _ _ _ c.room_for.ensures c.in-Fits.is))
 
 pub bounds-dest-n : goal.bounds-dest-n
-bounds-dest-n c = rw ((inner-is c.args.src.now c.args.dest.now _ (omega arith) c.put-n.ensures.memory), length_over) (omega (arith, c.put-n.ensures.length, (fits-says _ _ _ c.room_for.ensures c.in-Fits.is)))
+bounds-dest-n c = rw ((inner_is c.args.src.now c.args.dest.now _ (omega arith) c.put-n.ensures.memory), length_over) (omega (arith, c.put-n.ensures.length, (fits-says _ _ _ c.room_for.ensures c.in-Fits.is)))
 
 pub overflow_add-result : goal.overflow_add-result
 overflow_add-result c = omega (arith, c.put-n.ensures.length, (fits-says _ _ _ c.room_for.ensures c.in-Fits.is))
 
 pub shape_of-dest : goal.shape_of-dest
 shape_of-dest c =
-    length-inner c.args.src.now
+    length_inner c.args.src.now
     c.args.dest.now _ _
-    (inner-is c.args.src.now c.args.dest.now _ (omega arith) c.put-n.ensures.memory)
+    (inner_is c.args.src.now c.args.dest.now _ (omega arith) c.put-n.ensures.memory)
 
 pub returns : goal.returns
 returns c =
     let a = c.args in
-    let both = form-fits zeros_around _ _ _
+    let both = form_fits zeros_around _ _ _
     c.max_encoding_length.ensures _
     c.in-Bytes.is
     (omega (arith, length-around a.src.now, (fits-says _ _ _ c.room_for.ensures c.in-Fits.is))) _
     (omega (arith, length-around a.src.now, c.put-n.ensures.length)) _
-    (rw ((inner-is c.args.src.now c.args.dest.now _ (omega arith) c.put-n.ensures.memory), c.put-n.ensures.length) (around-is a.src.now a.dest.now)) in
+    (rw ((inner_is c.args.src.now c.args.dest.now _ (omega arith) c.put-n.ensures.memory), c.put-n.ensures.length) (around_is a.src.now a.dest.now)) in
     record { answer = both.0; memory = both.1 }

@@ -1,5 +1,5 @@
 -- `records::signed` meets its contract. Assumes nothing.
-use Rattle.record.proofs.Signs.{less-fits, less-cast}
+use Rattle.record.proofs.Signs.{less-fits, less_cast}
 use Rattle.std.proofs.Common.{rules}
 use Rattle.known_bytes.proofs.records.signed.Statement.{statement}
 use Rattle.known_bytes.proofs.records.signed.Tie as tie
@@ -17,7 +17,7 @@ sub-result : tie.Need-overflow-sub-result
 sub-result c = less-fits c.before.args.n c.before.ranges.n.fits c.if1.false
 
 cast-result-3 : tie.Need-overflow-cast-result-3
-cast-result-3 c = less-cast c.before.args.n c.before.ranges.n.fits c.if1.false
+cast-result-3 c = less_cast c.before.args.n c.before.ranges.n.fits c.if1.false
 
 returns-2 : tie.Need-returns-2
 returns-2 c = search rules

@@ -9,8 +9,8 @@ use Rattle.cobs.specs.Answers.{done}
 use Rattle.cobs.proofs.Bodies.{length-body}
 use Rattle.place.specs.Helpers.{group_of}
 use Rattle.place.specs.declared.place.Group.TheVariants.{Whole}
-use Rattle.place.proofs.Groups.{end-zero, says-whole, says-short}
-use Rattle.place.proofs.Downward.{Head, head_first, code-positive, place-empty, place_none, place_short, place-last, place-more}
+use Rattle.place.proofs.Groups.{end_zero, says-whole, says-short}
+use Rattle.place.proofs.Downward.{Head, head_first, code-positive, place_empty, place_none, place_short, place-last, place-more}
 use Rattle.place.proofs.place.decode_in_place_report.Goals as goal
 
 -- a turn: m is the buffer now, and the body of m₀ is `end` bytes long
@@ -36,17 +36,17 @@ module _ (m₀ m : List ℕ) (from to end : ℕ) (i : Head m₀ m from to × (en
 
 pub returns-then-buf-eq0 : goal.returns-then-buf-eq0
 returns-then-buf-eq0 c =
-    let both = place-empty _ c.if-buf-eq0.true in
+    let both = place_empty _ c.if-buf-eq0.true in
     record { answer = both.0; memory = both.1 }
 
 pub returns-then-end-eq0 : goal.returns-then-end-eq0
 returns-then-end-eq0 c =
-    let both = place_none _ c.if-buf-eq0.false (sym (end-zero c.args.buf.now _ c.body_end-end.ensures) ∙ c.if-end-eq0.true) in
+    let both = place_none _ c.if-buf-eq0.false (sym (end_zero c.args.buf.now _ c.body_end-end.ensures) ∙ c.if-end-eq0.true) in
     record { answer = both.0; memory = both.1 }
 
 pub loop-n-init : goal.loop-n-init
 loop-n-init c =
-    let e = end-zero c.args.buf.now _ c.body_end-end.ensures in
+    let e = end_zero c.args.buf.now _ c.body_end-end.ensures in
     (head_first _ (omega (arith, e, c.if-end-eq0.false)), e)
 
 pub bounds-buf-from : goal.bounds-buf-from

@@ -10,8 +10,8 @@ use Rattle.cobs.proofs.Bodies.{length-body}
 use Rattle.cobs.proofs.Sentinel.{length-masked}
 use Rattle.place.specs.Helpers.{group_of}
 use Rattle.place.specs.declared.place.Group.TheVariants.{Whole}
-use Rattle.place.proofs.Groups.{one-zero, says-whole, says-short}
-use Rattle.place.proofs.Measured.{Measured, measured-none, measured-empty, measured-nothing, masked-code, measured-code, measured-short, measured-last, measured-more}
+use Rattle.place.proofs.Groups.{one_zero, says-whole, says-short}
+use Rattle.place.proofs.Measured.{Measured, measured-none, measured_empty, measured-nothing, masked-code, measured-code, measured-short, measured-last, measured-more}
 use Rattle.place.proofs.sentinel.measured.Goals as goal
 
 -- a turn: its code, a byte of the source, of whose masked body `end` is the length
@@ -40,7 +40,7 @@ module _ (sentinel : ℕ) (src : List ℕ) (from to end : ℕ) (i : Measured (ma
         (omega (arith, is_code.0), omega (arith, fits), omega (arith, fits, i.0.behind))
 
 pub returns-then-src-eq0 : goal.returns-then-src-eq0
-returns-then-src-eq0 c = let a = c.args in measured-empty a.sentinel a.src.now c.if-src-eq0.true
+returns-then-src-eq0 c = let a = c.args in measured_empty a.sentinel a.src.now c.if-src-eq0.true
 
 pub returns-then-end-eq0 : goal.returns-then-end-eq0
 returns-then-end-eq0 c =
@@ -90,7 +90,7 @@ pub overflow_add-to-in-loop-n : goal.overflow_add-to-in-loop-n
 overflow_add-to-in-loop-n c =
     let i = c.loop-n.invariant in
     let w = sym c.group_of-group.ensures ∙ c.in-Whole.is in
-    let one : length (zero_after (code c.args.sentinel c.args.src.now c.loop-n.from c.loop-n.to c.body_end-end.result i)) ≤ 1 = one-zero _ in
+    let one : length (zero_after (code c.args.sentinel c.args.src.now c.loop-n.from c.loop-n.to c.body_end-end.result i)) ≤ 1 = one_zero _ in
     omega (arith, bounded _ _ _ _ _ i _ w, c.zeros_after-to.ensures, one)
 
 pub loop-n-smaller : goal.loop-n-smaller

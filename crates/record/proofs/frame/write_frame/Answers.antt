@@ -3,14 +3,14 @@ use Rattle.std.proofs.Common.{◌≡◌, ◌-◌, ◌≤◌, length, sym, refl, 
 use Rattle.cobs.specs.Answers.{done, bad_length, bad_record}
 use Rattle.record.specs.Frame.{message_told, told_checked}
 use Rattle.record.proofs.Frames.{whole}
-use Rattle.record.proofs.Framing.{told-length, told-records, writes-refused, writes-small, place, writes_nothing, writes-frame}
+use Rattle.record.proofs.Framing.{told-length, told_records, writes_refused, writes_small, place, writes_nothing, writes_frame}
 use borrow.Enum.Refused.{opened}
 use Rattle.record.proofs.frame.write_frame.Goals as goal
 
 pub returns-then-is_bad_length : goal.returns-then-is_bad_length
 returns-then-is_bad_length c =
     let a = c.args in
-    let both = writes-refused a.message.now a.dest.now bad_length
+    let both = writes_refused a.message.now a.dest.now bad_length
     (told-length a.message.now c.is_bad_length.result c.is_bad_length.ensures c.if-is_bad_length.true) refl in
     record { answer = both.0; memory = both.1 }
 
@@ -20,8 +20,8 @@ check-checked-requires c = (whole (length c.args.message.now) (sym c.is_bad_leng
 pub returns-in-BadRecord : goal.returns-in-BadRecord
 returns-in-BadRecord c =
     let a = c.args in
-    let both = writes-refused a.message.now a.dest.now (bad_record c.in-BadRecord.number)
-    (told-records a.message.now c.is_bad_length.result c.is_bad_length.ensures c.if-is_bad_length.false
+    let both = writes_refused a.message.now a.dest.now (bad_record c.in-BadRecord.number)
+    (told_records a.message.now c.is_bad_length.result c.is_bad_length.ensures c.if-is_bad_length.false
     (sym (ap told_checked c.in-BadRecord.is) ∙ c.check-checked.ensures)) refl in
     record { answer = both.0; memory = both.1 }
 
@@ -29,9 +29,9 @@ pub returns-then-dest-eq0 : goal.returns-then-dest-eq0
 returns-then-dest-eq0 c =
     let a = c.args in
     let good : message_told 16 240 a.message.now ≡ done 0 0 =
-    told-records a.message.now c.is_bad_length.result c.is_bad_length.ensures c.if-is_bad_length.false
+    told_records a.message.now c.is_bad_length.result c.is_bad_length.ensures c.if-is_bad_length.false
     (sym (ap told_checked c.in_default.is) ∙ c.check-checked.ensures) in
-    let both = writes-small a.message.now a.dest.now good (omega arith) in
+    let both = writes_small a.message.now a.dest.now good (omega arith) in
     record { answer = both.0; memory = both.1 }
 
 pub slice_bounds-encode-end-2 : goal.slice_bounds-encode-end-2
@@ -42,7 +42,7 @@ returns-in_default-encode c =
     let a = c.args in
     let short : length a.message.now ≤ 240 = (whole (length a.message.now) (sym c.is_bad_length.ensures ∙ c.if-is_bad_length.false)).short in
     let good : message_told 16 240 a.message.now ≡ done 0 0 =
-    told-records a.message.now c.is_bad_length.result c.is_bad_length.ensures c.if-is_bad_length.false
+    told_records a.message.now c.is_bad_length.result c.is_bad_length.ensures c.if-is_bad_length.false
     (sym (ap told_checked c.in_default.is) ∙ c.check-checked.ensures) in
     let e = c.encode in
     let both = writes_nothing a.message.now a.dest.now short (omega arith) e.result e.ensures.answer e.new.dest e.ensures.memory good (opened c.in_default-encode.in_default-encode-own.keys2) in
@@ -69,8 +69,8 @@ returns c =
     let a = c.args in
     let short : length a.message.now ≤ 240 = (whole (length a.message.now) (sym c.is_bad_length.ensures ∙ c.if-is_bad_length.false)).short in
     let good : message_told 16 240 a.message.now ≡ done 0 0 =
-    told-records a.message.now c.is_bad_length.result c.is_bad_length.ensures c.if-is_bad_length.false
+    told_records a.message.now c.is_bad_length.result c.is_bad_length.ensures c.if-is_bad_length.false
     (sym (ap told_checked c.in_default.is) ∙ c.check-checked.ensures) in
     let e = c.encode in
-    let both = writes-frame a.message.now a.dest.now short (omega arith) e.result e.ensures.answer e.new.dest e.ensures.memory good _ c.in-Length.is in
+    let both = writes_frame a.message.now a.dest.now short (omega arith) e.result e.ensures.answer e.new.dest e.ensures.memory good _ c.in-Length.is in
     record { answer = both.0; memory = both.1 }

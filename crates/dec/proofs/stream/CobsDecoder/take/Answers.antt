@@ -1,10 +1,10 @@
 -- `dec::stream::CobsDecoder::take` meets its contract: a law for each way through it. Assumes nothing.
-use Rattle.dec.proofs.Bytes.{taken-skip, taken_none, taken_start, taken-byte, taken-small, taken-frame, taken-invalid}
+use Rattle.dec.proofs.Bytes.{taken_skip, taken_none, taken_start, taken-byte, taken-small, taken-frame, taken_invalid}
 use Rattle.dec.proofs.stream.CobsDecoder.take.Goals as goal
 
 pub returns-then-self : goal.returns-then-self
 returns-then-self c =
-    let both = taken-skip _ _ _ _ c.if-self.true _ c.skipped.ensures in
+    let both = taken_skip _ _ _ _ c.if-self.true _ c.skipped.ensures in
     record { answer = both.0; memory = both.1 }
 
 pub returns-then-dest-place : goal.returns-then-dest-place
@@ -34,5 +34,5 @@ returns-else-dest-place c =
 
 pub returns-in-InvalidFrame : goal.returns-in-InvalidFrame
 returns-in-InvalidFrame c =
-    let both = taken-invalid _ _ _ _ c.if-self.false c.step-stepped.result c.step-stepped.ensures.step c.requires c.in-InvalidFrame.is _ c.ended-in-InvalidFrame.ensures in
+    let both = taken_invalid _ _ _ _ c.if-self.false c.step-stepped.result c.step-stepped.ensures.step c.requires c.in-InvalidFrame.is _ c.ended-in-InvalidFrame.ensures in
     record { answer = both.0; memory = both.1 }

@@ -4,7 +4,7 @@ use native.Mathlib.Omega.{arith}
 use lib.ListN.{length}
 use Rattle.enc.proofs.Steps.{Sound}
 use Rattle.enc.proofs.Pieces.{Good, good, finished_open}
-use Rattle.enc.proofs.Calls.{good-sound, finalize-asks, finalize-not-bad, finish-bad, finish-full, finish-open}
+use Rattle.enc.proofs.Calls.{good-sound, finalize-asks, finalize_not_bad, finish-bad, finish-full, finish-open}
 use Rattle.enc.proofs.stream.Encoder.finalize.Goals as goal
 
 pub returns-then-is_bad : goal.returns-then-is_bad
@@ -16,7 +16,7 @@ pub returns-in_default : goal.returns-in_default
 returns-in_default c =
     let good_here : Good c.args.self (length c.args.dest.now) = (good _ _).holds (sym c.is_bad.ensures ∙ c.if-is_bad.false) in
     let sound_here : Sound c.args.self.state = good-sound _ _ good_here (omega arith) in
-    absurd (finalize-not-bad _ sound_here _ c.finalize.ensures.state c.in_default.is)
+    absurd (finalize_not_bad _ sound_here _ c.finalize.ensures.state c.in_default.is)
 
 pub returns-then-self : goal.returns-then-self
 returns-then-self c =
