@@ -1,4 +1,4 @@
-//! Links the archive that `rt staticlib capi` makes: from $LAKSOVUTH_ARCHIVE, a folder, or from target/staticlib of this repository.
+//! Links the archive that `rt lib` makes in crates/capi_c: from $LAKSOVUTH_ARCHIVE, a folder, or from that crate's out/.
 use std::env;
 use std::path::PathBuf;
 
@@ -7,9 +7,9 @@ fn main() {
     let here = PathBuf::from(env::var("CARGO_MANIFEST_DIR").unwrap());
     let folder = match env::var("LAKSOVUTH_ARCHIVE") {
         Ok(folder) => PathBuf::from(folder),
-        Err(_) => here.join("../target/staticlib"),
+        Err(_) => here.join("../crates/capi_c/out"),
     };
-    let archive = folder.join("libcapi.a");
+    let archive = folder.join("libcapi_c.a");
     println!("cargo:rerun-if-changed={}", archive.display());
     assert!(
         env::var("CARGO_CFG_TARGET_ARCH").as_deref() == Ok("x86_64"),
@@ -17,9 +17,9 @@ fn main() {
     );
     assert!(
         archive.exists(),
-        "no {}: run `rt staticlib capi` in the repository first",
+        "no {}: run `rt lib` in crates/capi_c first",
         archive.display()
     );
     println!("cargo:rustc-link-search=native={}", folder.display());
-    println!("cargo:rustc-link-lib=static=capi");
+    println!("cargo:rustc-link-lib=static=capi_c");
 }

@@ -1,4 +1,5 @@
 -- A frame, one law for each way through `accept`. Assumes nothing.
+use Rattle.std.specs.Prelude.{if◌then◌else◌}
 use mathlib.Core.Path.{◌≡◌, refl, sym, ap, ◌∙◌}
 use mathlib.Core.Bool.{Bool, true, false}
 use mathlib.Core.List.{List, [], ◌∷◌}
@@ -7,7 +8,6 @@ use native.Mathlib.Omega.{arith}
 use lib.ListN.{length}
 use types.Run.{OneOf}
 use denote.Enum.Declared.{tag_of}
-use Rattle.cobs.specs.Words.{if◌then◌else◌}
 use Rattle.record.specs.Frame.{is_bad_length}
 use Rattle.batch.specs.State.{is_bad, stand_told}
 use Rattle.batch.specs.Frame.{told, Outcome, refused, taken, take_all, outcome, outcome_told, next_after, table_after, accept_told, accept_next, accept_table}

@@ -1,6 +1,5 @@
 -- 01 "The batch receiver": a frame, record by record, and what `accept` answers and leaves. Assumes nothing.
-use Rattle.std.specs.Prelude.{List, ℕ, zero, suc, ◌/◌, length, drop}
-use Rattle.cobs.specs.Words.{if◌then◌else◌}
+use Rattle.std.specs.Prelude.{List, ℕ, zero, suc, ◌/◌, length, drop, if◌then◌else◌}
 use Rattle.cobs.specs.Answers.{Told, bad_state, bad_length, bad_record, stale, ahead, no_room, beyond_close, conflict, still_open, missing, complete, differs}
 use Rattle.record.specs.Frame.{is_bad_length}
 use Rattle.batch.specs.State.{is_bad, stand_told}

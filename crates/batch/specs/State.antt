@@ -1,6 +1,6 @@
 -- 01 "The batch receiver": its state, when that is bad, and how a batch stands. Assumes nothing.
-use Rattle.std.specs.Prelude.{Bool, ◌||◌, List, ℕ, ◌-◌, ◌*◌, ◌/◌, min, eqb, take, drop}
-use Rattle.cobs.specs.Words.{if◌then◌else◌, ◌exceeds◌}
+use Rattle.std.specs.Prelude.{Bool, ◌||◌, List, ℕ, ◌-◌, ◌*◌, ◌/◌, min, eqb, take, drop, if◌then◌else◌}
+use Rattle.cobs.specs.Words.{◌exceeds◌}
 use Rattle.cobs.specs.Answers.{Told, bad_state, still_open, missing, complete, differs}
 use Rattle.marks.specs.Marks.{no_marks, marked_below}
 use Rattle.batch.specs.declared.Receiver.{Receiver}

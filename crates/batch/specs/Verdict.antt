@@ -1,6 +1,6 @@
 -- 01 "The batch receiver": what one record asks for, and what it does. Assumes nothing.
-use Rattle.std.specs.Prelude.{◌&&◌, List, ℕ, ◌+◌, eqb, leb}
-use Rattle.cobs.specs.Words.{if◌then◌else◌, ◌exceeds◌}
+use Rattle.std.specs.Prelude.{◌&&◌, List, ℕ, ◌+◌, eqb, leb, if◌then◌else◌}
+use Rattle.cobs.specs.Words.{◌exceeds◌}
 use Rattle.blocks.specs.Blocks.{copied}
 use Rattle.marks.specs.Marks.{marked, set_mark}
 use Rattle.record.specs.Record.{read_of, class_of}

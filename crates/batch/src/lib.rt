@@ -1,6 +1,7 @@
 //! The batch receiver. A frame is taken record by record, its particles stored as they come; at a refusal each slot gets
 //! its bytes back, and the state is the one that went in.
 #![tactic(auto)]
+
 pub mod judge;
 mod slots;
 mod state;

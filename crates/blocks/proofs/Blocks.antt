@@ -1,4 +1,5 @@
 -- Sixteen bytes: each turn of a loop over them, and what a test or a copy that was taken says. Assumes nothing.
+use Rattle.std.specs.Prelude.{if◌then◌else◌}
 use mathlib.Core.Path.{◌≡◌, refl, sym, ap, ◌∙◌}
 use mathlib.Core.Bool.{Bool, true, false, not, ◌&&◌, false≢true}
 use mathlib.Core.List.{List, [], ◌∷◌, ◌++◌}
@@ -11,7 +12,6 @@ use lib.Dec.{eqb, leb}
 use lib.ListN.{length, get_or, take, drop, set, replicate, length-drop}
 use lib.Seq.{paste, paste-suc, take-suc, take-suc-set, take-take, get_or-drop, get_or-take, length-take-le, take_all}
 use borrow.Author.Tests.{le-leb, lt-leb, leb-true, leb-false, eqb-true, eqb-false, not-true, not-false}
-use Rattle.cobs.specs.Words.{if◌then◌else◌}
 use Rattle.blocks.specs.declared.Taken.TheVariants.{Nothing, Clear, Zeros, Mixed}
 use Rattle.blocks.specs.Blocks.{stands, each, flag, sixteen, is_clear, is_all, copied, kind_of, taken_of, filled}
 

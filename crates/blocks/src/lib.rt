@@ -1,6 +1,7 @@
 //! Bytes of a buffer many at a time. A loop of sixteen turns with no way out becomes one wide instruction.
 //! Every call is total: where sixteen bytes do not stand, a test is false and a copy changes nothing.
 #![tactic(auto)]
+
 ghost use Rattle.std.specs.Prelude.{◌≡◌, ◌+◌, ◌≤◌, length, take, drop, not, eqb};
 ghost use Rattle.std.proofs.Math.Seq.{paste};
 ghost use Rattle.blocks.specs.Blocks.{stands, each, flag, is_clear, is_all, copied, taken_of, filled, masked_front};

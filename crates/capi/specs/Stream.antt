@@ -1,7 +1,6 @@
 -- The workstation's calls over the C convention: `receive` and `stands` on the states that numbers name. Numbers that name none
 -- are BadState, and then nothing changes. Assumes nothing.
-use Rattle.std.specs.Prelude.{true, List, ℕ, eqb, length}
-use Rattle.cobs.specs.Words.{if◌then◌else◌}
+use Rattle.std.specs.Prelude.{true, List, ℕ, eqb, length, if◌then◌else◌}
 use Rattle.cobs.specs.Answers.{Told, done, bad_state}
 use Rattle.batch.specs.State.{stands_told}
 use Rattle.wire.specs.Again.{Received}

@@ -1,6 +1,7 @@
 //! The calls over the C convention: here the one-shot ones, for firmware and the comparison; in `stream` the workstation's. A call
 //! answers 01's number, 0 for done, and puts the answer's values behind its out-parameters, 0 where there is none.
 #![tactic(auto)]
+
 pub mod stream;
 mod told;
 
@@ -12,24 +13,21 @@ ghost use Rattle.cobs.specs.OneShot.{plain, zeros_around, chosen, encode_told, e
 use told::{decoded, decoded_with, encoded, encoded_with, length_of, put, report};
 
 /// How many bytes the encoding of n bytes adds at most.
-#[unsafe(no_mangle)]
-pub extern "C" fn laksovuth_max_encoding_overhead(n: usize, size: &mut usize) -> u8
+pub fn laksovuth_max_encoding_overhead(n: usize, size: &mut usize) -> u8
     ensures answer { tell result size.new 0 ≡ overhead_told n }
 {
     length_of(cobs::max_encoding_overhead(n), size)
 }
 
 /// How long the encoding of n bytes is at most.
-#[unsafe(no_mangle)]
-pub extern "C" fn laksovuth_max_encoding_length(n: usize, size: &mut usize) -> u8
+pub fn laksovuth_max_encoding_length(n: usize, size: &mut usize) -> u8
     ensures answer { tell result size.new 0 ≡ length_told n }
 {
     length_of(cobs::max_encoding_length(n), size)
 }
 
 /// The encoding of src, at the front of dest.
-#[unsafe(no_mangle)]
-pub extern "C" fn laksovuth_encode(src: &[u8], dest: &mut [u8], size: &mut usize) -> u8
+pub fn laksovuth_encode(src: &[u8], dest: &mut [u8], size: &mut usize) -> u8
     ensures answer { tell result size.new 0 ≡ encode_told plain src.now (length dest.old) }
     ensures memory { dest.new ≡ encode_dest plain src.now dest.old }
 {
@@ -37,12 +35,7 @@ pub extern "C" fn laksovuth_encode(src: &[u8], dest: &mut [u8], size: &mut usize
 }
 
 /// The same with a zero before and after.
-#[unsafe(no_mangle)]
-pub extern "C" fn laksovuth_encode_including_sentinels(
-    src: &[u8],
-    dest: &mut [u8],
-    size: &mut usize,
-) -> u8
+pub fn laksovuth_encode_including_sentinels(src: &[u8], dest: &mut [u8], size: &mut usize) -> u8
     ensures answer { tell result size.new 0 ≡ encode_told zeros_around src.now (length dest.old) }
     ensures memory { dest.new ≡ encode_dest zeros_around src.now dest.old }
 {
@@ -50,8 +43,7 @@ pub extern "C" fn laksovuth_encode_including_sentinels(
 }
 
 /// The encoding with each byte XORed with the sentinel.
-#[unsafe(no_mangle)]
-pub extern "C" fn laksovuth_encode_with_sentinel(
+pub fn laksovuth_encode_with_sentinel(
     src: &[u8],
     dest: &mut [u8],
     sentinel: u8,
@@ -67,13 +59,7 @@ pub extern "C" fn laksovuth_encode_with_sentinel(
 }
 
 /// The first frame of src, at the front of dest.
-#[unsafe(no_mangle)]
-pub extern "C" fn laksovuth_decode(
-    src: &[u8],
-    dest: &mut [u8],
-    size: &mut usize,
-    parsed: &mut usize,
-) -> u8
+pub fn laksovuth_decode(src: &[u8], dest: &mut [u8], size: &mut usize, parsed: &mut usize) -> u8
     ensures answer { tell result size.new parsed.new ≡ decode_told src.now (length dest.old) }
     ensures memory { dest.new ≡ decode_dest src.now dest.old }
 {
@@ -81,12 +67,7 @@ pub extern "C" fn laksovuth_decode(
 }
 
 /// The body at the front of the buffer, decoded where it stands.
-#[unsafe(no_mangle)]
-pub extern "C" fn laksovuth_decode_in_place(
-    buf: &mut [u8],
-    size: &mut usize,
-    parsed: &mut usize,
-) -> u8
+pub fn laksovuth_decode_in_place(buf: &mut [u8], size: &mut usize, parsed: &mut usize) -> u8
     ensures answer { tell result size.new parsed.new ≡ in_place_told buf.old }
     ensures memory { buf.new ≡ in_place_dest buf.old }
 {
@@ -98,8 +79,7 @@ pub extern "C" fn laksovuth_decode_in_place(
 }
 
 /// The body of src with each byte XORed with the sentinel, decoded into dest.
-#[unsafe(no_mangle)]
-pub extern "C" fn laksovuth_decode_with_sentinel(
+pub fn laksovuth_decode_with_sentinel(
     src: &[u8],
     dest: &mut [u8],
     sentinel: u8,

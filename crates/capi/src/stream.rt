@@ -9,8 +9,7 @@ use crate::told::{frame, put, received, standing};
 use wire::Wire;
 
 /// The encoding of a message of 1 to 15 records, and one zero.
-#[unsafe(no_mangle)]
-pub extern "C" fn laksovuth_write_frame(
+pub fn laksovuth_write_frame(
     message: &[u8],
     dest: &mut [u8],
     size: &mut usize,
@@ -23,16 +22,14 @@ pub extern "C" fn laksovuth_write_frame(
 }
 
 /// How many numbers a receiving side keeps.
-#[unsafe(no_mangle)]
-pub extern "C" fn laksovuth_state_length() -> usize
+pub fn laksovuth_state_length() -> usize
     ensures { result ≡ 74 }
 {
     numbers::COUNT
 }
 
 /// Opens a batch on a table. The numbers then name a fresh decoder and a receiver opened on it.
-#[unsafe(no_mangle)]
-pub extern "C" fn laksovuth_open(state: &mut [u64], batch: u16, table: &[u8]) -> u8
+pub fn laksovuth_open(state: &mut [u64], batch: u16, table: &[u8]) -> u8
     ensures answer { tell result 0 0 ≡ open_told state.old }
     ensures memory { state.new ≡ open_state state.old batch (length table.now) }
     ensures named { read_of state.new ≡ open_found state.old batch (length table.now) }
@@ -46,8 +43,7 @@ pub extern "C" fn laksovuth_open(state: &mut [u64], batch: u16, table: &[u8]) ->
 
 /// Takes a piece up to the end of its first frame. Afterwards the numbers name the states that the call left, so the next call
 /// goes on from there.
-#[unsafe(no_mangle)]
-pub extern "C" fn laksovuth_receive(
+pub fn laksovuth_receive(
     state: &mut [u64],
     buffer: &mut [u8],
     table: &mut [u8],
@@ -78,13 +74,7 @@ pub extern "C" fn laksovuth_receive(
 }
 
 /// How the batch stands.
-#[unsafe(no_mangle)]
-pub extern "C" fn laksovuth_stands(
-    state: &[u64],
-    table: &[u8],
-    missing: &mut usize,
-    total: &mut u64,
-) -> u8
+pub fn laksovuth_stands(state: &[u64], table: &[u8], missing: &mut usize, total: &mut u64) -> u8
     ensures answer { tell result missing.new 0 ≡ state_told state.now (length table.now) }
     ensures total { total.new ≡ state_total state.now (length table.now) }
 {

@@ -1,4 +1,5 @@
 -- The two length functions' answers, case by case, on plain values. Assumes nothing.
+use Rattle.std.specs.Prelude.{if◌then◌else◌}
 use mathlib.Core.Path.{◌≡◌, refl, sym, ap, ◌∙◌}
 use mathlib.Core.Bool.{Bool, true, false}
 use Prim.Native.Nat.{ℕ, ◌+◌, ◌≤◌, ◌<◌}
@@ -6,7 +7,7 @@ use native.Mathlib.Omega.{arith}
 use borrow.Author.Tests.{le-ltb, lt-ltb, ltb-false}
 use Rattle.cobs.specs.declared.Length.{Length}
 use Rattle.cobs.specs.declared.Length.TheVariants.{Bytes, TooLong}
-use Rattle.cobs.specs.Words.{if◌then◌else◌, ◌exceeds◌}
+use Rattle.cobs.specs.Words.{◌exceeds◌}
 use Rattle.cobs.specs.Code.{overhead, max_length}
 use Rattle.cobs.specs.Answers.{Told, done, too_long, longest}
 use Rattle.cobs.specs.Lengths.{told, overhead_told, length_told}

@@ -1,4 +1,5 @@
 -- Each decoding call gives back what an encoding call writes: instances of the laws in OneShot. Assumes nothing.
+use Rattle.std.specs.Prelude.{if◌then◌else◌}
 use mathlib.Core.Path.{◌≡◌, refl, ap, ◌∙◌}
 use mathlib.Core.Bool.{Bool, true, false, false≢true}
 use mathlib.Core.List.{List, [], ◌∷◌, ◌++◌, append-nil}
@@ -8,7 +9,6 @@ use lib.Dec.{ltb}
 use lib.ListN.{length, take, length-append, replicate}
 use lib.Seq.{take-append_seam}
 use borrow.Author.Tests.{ltb-false}
-use Rattle.cobs.specs.Words.{if◌then◌else◌}
 use Rattle.cobs.specs.Code.{encode_in, encode, masked}
 use Rattle.cobs.specs.Answers.{Told, done, too_long, dest_buf_too_small, longest, is_done}
 use Rattle.cobs.specs.OneShot.{Form, zeros_around, finished, encode_told, encode_dest, decode_told, decode_dest, in_place_told, in_place_dest, size_alone, with_sentinel_told, with_sentinel_dest}

@@ -1,9 +1,9 @@
 -- Two results that meet a function's promise are equal, for every public function. Assumes nothing.
+use Rattle.std.specs.Prelude.{if◌then◌else◌}
 use mathlib.Core.Path.{◌≡◌, refl}
 use Prim.Native.Nat.{ℕ}
 use Rattle.cobs.specs.declared.Length.{Length}
 use Rattle.cobs.specs.declared.Length.TheVariants.{Bytes, TooLong}
-use Rattle.cobs.specs.Words.{if◌then◌else◌}
 use Rattle.cobs.specs.Answers.{Told, is_done}
 use Rattle.cobs.specs.Lengths.{told, overhead_told, length_told}
 use Rattle.cobs.proofs.Told.{one-result}

@@ -1,7 +1,6 @@
 -- 01 "Refusals": an answer as a number and two values, the same for every call, so that answers compare, print and cross
 -- the C boundary alike. Assumes nothing.
-use Rattle.std.specs.Prelude.{Bool, List, ℕ, eqb}
-use Rattle.cobs.specs.Words.{if◌then◌else◌}
+use Rattle.std.specs.Prelude.{Bool, List, ℕ, eqb, if◌then◌else◌}
 
 -- The number is 0 for done, 01's own for a refusal, and from 14 on for the other answers. The first value is what the
 -- answer carries; the second says where: bytes parsed or consumed, or a record's number. A value that is not there is 0.

@@ -1,8 +1,8 @@
 -- 01 "The code": the encoding of a message, and what a body means. Bytes are numbers, messages and bodies are lists of them.
 -- Assumes nothing.
-use Rattle.std.specs.Prelude.{Bool, true, false, List, [], ◌∷◌, ◌++◌, map, ℕ, zero, suc, pred, ◌+◌, ◌/◌, ◌<◌, length, take, drop, eqb}
+use Rattle.std.specs.Prelude.{Bool, true, false, List, [], ◌∷◌, ◌++◌, map, ℕ, zero, suc, pred, ◌+◌, ◌/◌, ◌<◌, length, take, drop, eqb, if◌then◌else◌}
 use Rattle.std.specs.Int.Bits.{bit_xor}
-use Rattle.cobs.specs.Words.{if◌then◌else◌, ◌exceeds◌}
+use Rattle.cobs.specs.Words.{◌exceeds◌}
 
 -- ---- Encoding a message, group by group
 

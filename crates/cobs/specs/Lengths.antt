@@ -1,6 +1,6 @@
 -- What the two length functions answer. Assumes nothing.
-use Rattle.std.specs.Prelude.{ℕ}
-use Rattle.cobs.specs.Words.{if◌then◌else◌, ◌exceeds◌}
+use Rattle.std.specs.Prelude.{ℕ, if◌then◌else◌}
+use Rattle.cobs.specs.Words.{◌exceeds◌}
 use Rattle.cobs.specs.Code.{overhead, max_length}
 use Rattle.cobs.specs.Answers.{Told, done, too_long, longest}
 use Rattle.cobs.specs.declared.Length.{Length}

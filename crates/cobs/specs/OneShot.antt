@@ -1,7 +1,7 @@
 -- 01 "Encoding calls" and "Decoding calls": what each one-shot call answers, and what it leaves in its buffer.
 -- Assumes nothing.
-use Rattle.std.specs.Prelude.{not, List, [], ◌∷◌, ◌++◌, ℕ, zero, suc, ◌+◌, length, drop, eqb}
-use Rattle.cobs.specs.Words.{if◌then◌else◌, ◌exceeds◌}
+use Rattle.std.specs.Prelude.{not, List, [], ◌∷◌, ◌++◌, ℕ, zero, suc, ◌+◌, length, drop, eqb, if◌then◌else◌}
+use Rattle.cobs.specs.Words.{◌exceeds◌}
 use Rattle.cobs.specs.Code.{encode, body, Reading, read, over, masked}
 use Rattle.cobs.specs.Answers.{Told, done, empty_frame, invalid_frame, target_buf_too_small, dest_buf_too_small, too_long, longest, is_done, if_done}
 

@@ -1,4 +1,5 @@
 -- The state alone over a run of bytes, as if the room had no end: over a body and its zero it gives what `read` says. Assumes nothing.
+use Rattle.std.specs.Prelude.{if◌then◌else◌}
 use mathlib.Core.Path.{◌≡◌, refl, sym, ap, ap₂, ◌∙◌}
 use mathlib.Core.Bool.{Bool, true, false}
 use mathlib.Core.List.{List, [], ◌∷◌, ◌++◌, append-nil, append_assoc}
@@ -8,7 +9,6 @@ use native.Mathlib.Numerals.{add-one}
 use native.Mathlib.Omega.{arith}
 use lib.Dec.{eqb}
 use lib.ListN.{length, length-append}
-use Rattle.cobs.specs.Words.{if◌then◌else◌}
 use Rattle.cobs.specs.Code.{NoZero, Reading, zero_after, read}
 use Rattle.cobs.proofs.Runs.{no-zero-front, no-zero-back}
 use Rattle.cobs.proofs.Reading.{by_codes, read_short, read-last, read_more}

@@ -1,4 +1,5 @@
 -- One byte fed to the decoder: a law for each way through `take`. Assumes nothing.
+use Rattle.std.specs.Prelude.{if◌then◌else◌}
 use mathlib.Core.Path.{◌≡◌, refl, sym, ap, ◌∙◌}
 use mathlib.Core.Bool.{true, false}
 use mathlib.Core.List.{List}
@@ -9,7 +10,6 @@ use lib.Dec.{eqb}
 use lib.ListN.{length, set}
 use lib.Seq.{set_out}
 use borrow.Author.Tests.{lt-ltb, le-ltb}
-use Rattle.cobs.specs.Words.{if◌then◌else◌}
 use Rattle.cobs.specs.Answers.{done, invalid_frame, target_buf_too_small}
 use Rattle.dec.specs.State.{stepped}
 use Rattle.dec.specs.Stream.{at, new, skipping, Outcome, goes, stops, result_outcome, byte_outcome, result_dest, byte_dest, further}

@@ -1,13 +1,11 @@
 -- A law for each way through `decode`: the first push stopped, or the zero that was missing is fed. Assumes nothing.
+use Rattle.std.specs.Prelude.{if◌then◌else◌}
 use mathlib.Core.Path.{◌≡◌, refl, sym, ap, ◌∙◌, subst}
 use mathlib.Core.Bool.{true, false}
 use mathlib.Core.List.{List, [], ◌∷◌}
 use Prim.Native.Nat.{ℕ, ◌≤◌}
 use native.Mathlib.Omega.{arith}
 use lib.ListN.{length}
-use types.Run.{OneOf, miss}
-use denote.Enum.Declared.{tag_of}
-use Rattle.cobs.specs.Words.{if◌then◌else◌}
 use Rattle.cobs.specs.Code.{read, read_in}
 use Rattle.cobs.specs.Answers.{done}
 use Rattle.cobs.specs.OneShot.{meant, decoded, decode_told, decode_dest}
@@ -19,8 +17,7 @@ use Rattle.dec.specs.declared.stream.PushAnswer.{PushAnswer}
 use Rattle.dec.specs.declared.stream.PushAnswer.TheVariants as push
 use Rattle.dec.specs.declared.stream.Pushed.{Pushed}
 use Rattle.dec.specs.declared.decode.Decoded.{Decoded}
-use Rattle.dec.specs.declared.decode.Decoded.TheVariants.{Frame, EmptyFrame, InvalidFrame, TargetBufTooSmall}
-use Rattle.dec.specs.contracts.stream.PushAnswer.{the_type}
+use Rattle.dec.specs.declared.decode.Decoded.TheVariants.{Frame, EmptyFrame}
 use Rattle.dec.proofs.Good.{new-good}
 use Rattle.dec.proofs.Pieces.{joined-more, joined-stop, push-piece, push-cut, push_dest-cut}
 use Rattle.dec.proofs.Restart.{used-within}
@@ -48,11 +45,11 @@ closed-frame : (n : ℕ) (d : CobsDecoder) (size parsed : ℕ)
 unfolding further
 closed-frame n d size parsed = ap (done size) (omega arith)
 
-closed-other : (n : ℕ) (d : CobsDecoder) (a : PushAnswer) → OneOf (0 ∷ 2 ∷ 3 ∷ 4 ∷ []) (tag_of the_type a)
+closed-other : (n : ℕ) (d : CobsDecoder) (a : PushAnswer) → ((size parsed : ℕ) → a ≡ push.Frame size parsed → ⊥)
     → decoded_told (stopped a) ≡ one_shot n (further n (outcome (record { next = d; answer = a }))).answer
 unfolding further
 closed-other n d push.More h = refl
-closed-other n d (push.Frame size parsed) h = absurd (miss (0 ∷ 2 ∷ 3 ∷ 4 ∷ []) 1 tt h)
+closed-other n d (push.Frame size parsed) h = absurd (h size parsed refl)
 closed-other n d (push.InvalidFrame decoded consumed) h = refl
 closed-other n d (push.TargetBufTooSmall consumed) h = refl
 closed-other n d push.BadState h = refl
@@ -107,5 +104,5 @@ module _ (src m : List ℕ) (some : length src ≡ 0 → ⊥) (d : CobsDecoder) 
     decode-frame size parsed e =
         (closed-frame (length src) z.next size parsed ∙ sym (closed-answer ∙ rw e), closed-memory)
 
-    pub decode-other : OneOf (0 ∷ 2 ∷ 3 ∷ 4 ∷ []) (tag_of the_type z.answer) → (r : Decoded) → r ≡ stopped z.answer → Decodes src m r m₂
+    pub decode-other : ((size parsed : ℕ) → z.answer ≡ push.Frame size parsed → ⊥) → (r : Decoded) → r ≡ stopped z.answer → Decodes src m r m₂
     decode-other h r e = (ap decoded_told e ∙ closed-other (length src) z.next z.answer h ∙ sym closed-answer, closed-memory)

@@ -1,5 +1,6 @@
 -- The streaming decoder, new, over a body and its zero: the answer is `read`'s, and an encoding is decoded to its message.
 -- Assumes nothing.
+use Rattle.std.specs.Prelude.{if◌then◌else◌}
 use mathlib.Core.Path.{◌≡◌, refl, sym, ap, ◌∙◌, subst}
 use mathlib.Core.Bool.{Bool, true, false}
 use mathlib.Core.List.{List, [], ◌∷◌, ◌++◌, append-nil}
@@ -10,7 +11,6 @@ use lib.Dec.{ltb}
 use lib.ListN.{length, set, length-set}
 use lib.Seq.{set_out}
 use borrow.Author.Tests.{lt-ltb, ltb-true, ltb-false}
-use Rattle.cobs.specs.Words.{if◌then◌else◌}
 use Rattle.cobs.specs.Code.{NoZero, encode, read, over}
 use Rattle.cobs.specs.Answers.{done, invalid_frame, target_buf_too_small}
 use Rattle.cobs.proofs.Encoding.{encode-no-zero, encode-nonempty}

@@ -1,4 +1,5 @@
 -- Good states: what the test of BadState comes to, and that no call leads from a good state to a bad one. Assumes nothing.
+use Rattle.std.specs.Prelude.{if◌then◌else◌}
 use mathlib.Core.Path.{◌≡◌, refl, sym, ◌∙◌}
 use mathlib.Core.Bool.{Bool, true, false, not, ◌&&◌, ◌||◌, false≢true}
 use mathlib.Core.List.{List, [], ◌∷◌}
@@ -6,7 +7,6 @@ use Prim.Native.Nat.{ℕ, zero, suc, ◌≤◌, ◌<◌, zero-le}
 use native.Mathlib.Omega.{arith}
 use lib.Dec.{eqb, ltb}
 use borrow.Author.Tests.{lt-ltb, le-ltb, ltb-true, ltb-false}
-use Rattle.cobs.specs.Words.{if◌then◌else◌}
 use Rattle.dec.specs.State.{opened, at_zero, stepped}
 use Rattle.dec.specs.Stream.{at, new, skipping, is_idle, bad, Outcome, goes, is_more, result_outcome, byte_outcome, further, joined, piece_outcome, push_outcome}
 use Rattle.dec.specs.declared.state.DecoderState.{DecoderState}

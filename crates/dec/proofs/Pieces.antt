@@ -1,4 +1,5 @@
 -- A piece, byte by byte: what is left of it from here, and that it may be cut anywhere. Assumes nothing.
+use Rattle.std.specs.Prelude.{if◌then◌else◌}
 use mathlib.Core.Path.{◌≡◌, refl, sym, ap, ◌∙◌}
 use mathlib.Core.Bool.{true, false, false≢true}
 use mathlib.Core.List.{List, [], ◌∷◌, ◌++◌}
@@ -7,10 +8,9 @@ use native.Mathlib.Nat.{zero-add}
 use native.Mathlib.Omega.{arith}
 use lib.Dec.{ltb}
 use lib.ListN.{length, length-set}
-use Rattle.cobs.specs.Words.{if◌then◌else◌}
 use Rattle.cobs.specs.Answers.{tell}
 use Rattle.dec.specs.State.{stepped}
-use Rattle.dec.specs.Stream.{at, bad, result_outcome, Outcome, goes, stops, is_more, result_dest, byte_outcome, byte_dest, further, joined, piece_outcome, piece_dest, push_outcome, push_dest}
+use Rattle.dec.specs.Stream.{bad, result_outcome, Outcome, goes, stops, is_more, result_dest, byte_outcome, byte_dest, further, joined, piece_outcome, piece_dest, push_outcome, push_dest}
 use Rattle.dec.specs.declared.state.DecoderState.{DecoderState}
 use Rattle.dec.specs.declared.state.DecodeResult.{DecodeResult}
 use Rattle.dec.specs.declared.state.DecodeResult.TheVariants.{NoData, DataStart, DataComplete, DataContinue, InvalidFrame}

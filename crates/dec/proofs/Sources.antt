@@ -1,4 +1,5 @@
 -- One-shot decoding is the streaming decoder, new, over the source and a zero behind it. Assumes nothing.
+use Rattle.std.specs.Prelude.{if◌then◌else◌}
 use mathlib.Core.Path.{◌≡◌, refl, sym, ap, ◌∙◌}
 use mathlib.Core.Bool.{Bool, true, false}
 use mathlib.Core.Logic.{◌⊎◌, inl, inr, ⊎_elim}
@@ -10,7 +11,6 @@ use native.Mathlib.Omega.{arith}
 use lib.Dec.{eqb}
 use lib.ListN.{length}
 use borrow.Author.Tests.{le-ltb, lt-ltb, ne_eqb}
-use Rattle.cobs.specs.Words.{if◌then◌else◌}
 use Rattle.cobs.specs.Code.{body, cut}
 use Rattle.cobs.specs.Answers.{Told, is_done, done, invalid_frame, target_buf_too_small}
 use Rattle.cobs.specs.OneShot.{leading, closing, skipped, parsed, meant, decoded, decode_told, decode_dest}

@@ -1,11 +1,11 @@
 -- Two results that meet a function's promise are equal, the memory behind its `&mut` with them, for every public function.
 -- Assumes nothing.
+use Rattle.std.specs.Prelude.{if◌then◌else◌}
 use mathlib.Core.Path.{◌≡◌, refl, sym, ◌∙◌}
 use mathlib.Core.List.{List, [], ◌∷◌}
 use Prim.Native.Nat.{ℕ}
 use lib.Dec.{eqb}
 use lib.ListN.{length}
-use Rattle.cobs.specs.Words.{if◌then◌else◌}
 use Rattle.cobs.specs.Answers.{Told, is_done}
 use Rattle.cobs.specs.OneShot.{decode_told, decode_dest}
 use Rattle.cobs.proofs.Told.{one-result}

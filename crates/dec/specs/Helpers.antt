@@ -1,7 +1,6 @@
 -- How private helpers say what they do. No public promise cites it. Assumes nothing.
-use Rattle.std.specs.Prelude.{◌≡◌, Bool, List, ℕ, ◌+◌, ◌-◌, ◌≤◌, ◌<◌, eqb, length, get_or, drop}
+use Rattle.std.specs.Prelude.{◌≡◌, Bool, List, ℕ, ◌+◌, ◌-◌, ◌≤◌, ◌<◌, eqb, length, get_or, drop, if◌then◌else◌}
 use Rattle.std.proofs.Math.Seq.{paste}
-use Rattle.cobs.specs.Words.{if◌then◌else◌}
 use Rattle.dec.specs.Stream.{at, further, piece_outcome, piece_dest}
 use Rattle.dec.specs.declared.state.DecoderState.{DecoderState}
 use Rattle.dec.specs.declared.state.DecoderState.TheVariants.{Grab, GrabChain}

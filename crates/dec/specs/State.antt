@@ -1,6 +1,5 @@
 -- 01 "Decoding calls": what one byte does to the decoder's state. Assumes nothing.
-use Rattle.std.specs.Prelude.{◌≡◌, ℕ, zero, suc, pred, eqb}
-use Rattle.cobs.specs.Words.{if◌then◌else◌}
+use Rattle.std.specs.Prelude.{◌≡◌, ℕ, zero, suc, pred, eqb, if◌then◌else◌}
 use Rattle.cobs.specs.Answers.{Told, done, invalid_frame}
 use Rattle.dec.specs.declared.state.DecoderState.{DecoderState}
 use Rattle.dec.specs.declared.state.DecoderState.TheVariants.{Idle, Grab, GrabChain}

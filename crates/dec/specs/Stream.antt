@@ -1,6 +1,6 @@
 -- 01 "Decoding calls", streaming: what a byte and a piece come to, on the declared decoder itself. Assumes nothing.
-use Rattle.std.specs.Prelude.{Bool, true, false, not, ◌&&◌, ◌||◌, List, [], ◌∷◌, ℕ, suc, ◌+◌, eqb, length, set}
-use Rattle.cobs.specs.Words.{if◌then◌else◌, ◌exceeds◌}
+use Rattle.std.specs.Prelude.{Bool, true, false, not, ◌&&◌, ◌||◌, List, [], ◌∷◌, ℕ, suc, ◌+◌, eqb, length, set, if◌then◌else◌}
+use Rattle.cobs.specs.Words.{◌exceeds◌}
 use Rattle.cobs.specs.Answers.{Told, tell, done, invalid_frame, target_buf_too_small, bad_state, more}
 use Rattle.dec.specs.State.{stepped}
 use Rattle.dec.specs.declared.state.DecoderState.{DecoderState}

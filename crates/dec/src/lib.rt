@@ -1,5 +1,6 @@
 //! The decoder: byte by byte, piece by piece, and in one call.
 #![tactic(auto)]
+
 pub mod decode;
 mod fast;
 pub mod state;

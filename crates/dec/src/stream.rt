@@ -1,6 +1,5 @@
 //! The streaming decoder: pieces in, frames out.
-ghost use Rattle.std.specs.Prelude.{◌≡◌, [], ◌∷◌, ◌-◌, ◌≤◌, ◌<◌, eqb, length};
-ghost use Rattle.cobs.specs.Words.{if◌then◌else◌};
+ghost use Rattle.std.specs.Prelude.{◌≡◌, [], ◌∷◌, ◌-◌, ◌≤◌, ◌<◌, eqb, length, if◌then◌else◌};
 ghost use Rattle.dec.specs.Helpers.{inside, Ahead, Bytes};
 ghost use Rattle.dec.specs.Stream.{at, new, skipping, is_idle, bad, goes, stops, told, outcome, further, byte_outcome, byte_dest, push_outcome, push_dest};
 

@@ -1,4 +1,5 @@
 -- What each streaming call answers and leaves. Assumes nothing.
+use Rattle.std.specs.Prelude.{if◌then◌else◌}
 use mathlib.Core.Path.{◌≡◌, refl, subst, ◌∙◌}
 use mathlib.Core.Bool.{Bool, true, false}
 use mathlib.Core.List.{List, [], ◌∷◌}
@@ -9,7 +10,6 @@ use denote.Enum.Declared.{tag_of}
 use lib.ListN.{length, set}
 use lib.Dec.{eqb}
 use borrow.Author.Tests.{eqb-false, lt-ltb, le-ltb}
-use Rattle.cobs.specs.Words.{if◌then◌else◌}
 use Rattle.cobs.specs.Answers.{Told, done, too_long, dest_buf_too_small, bad_state, longest, is_done}
 use Rattle.cobs.proofs.Told.{unlike}
 use Rattle.enc.specs.State.{state_finalize}

@@ -1,4 +1,5 @@
 -- The three forms of output: what a one-shot call answers and leaves, each way out. Assumes nothing.
+use Rattle.std.specs.Prelude.{if◌then◌else◌}
 use mathlib.Core.Path.{◌≡◌, refl, sym, ap, ◌∙◌}
 use mathlib.Core.Bool.{Bool, true, false}
 use mathlib.Core.List.{List, [], ◌∷◌, append-nil}
@@ -9,7 +10,7 @@ use lib.ListN.{length, take, drop, set, length-append, length-set}
 use lib.Seq.{take-append_seam, drop-append_seam, take-length, drop-length}
 use borrow.Rule.Slice.PartMut.{put_mid}
 use borrow.Author.Tests.{lt-ltb, le-ltb, ltb-true, ltb-false}
-use Rattle.cobs.specs.Words.{if◌then◌else◌, ◌exceeds◌}
+use Rattle.cobs.specs.Words.{◌exceeds◌}
 use Rattle.cobs.specs.Code.{encode, max_length, over, masked}
 use Rattle.cobs.specs.Answers.{Told, done, too_long, dest_buf_too_small, longest}
 use Rattle.cobs.specs.OneShot.{Form, plain, zeros_around, chosen, finished, encode_told, encode_dest}

@@ -1,5 +1,6 @@
 -- One call after another: no call leads to a BadState, the finished length never falls, what stands behind it is never written,
 -- and buffers that finish alike go on to finish alike. Assumes nothing.
+use Rattle.std.specs.Prelude.{if◌then◌else◌}
 use mathlib.Core.Path.{◌≡◌, refl, sym, ap, ◌∙◌, subst}
 use mathlib.Core.Bool.{Bool, true, false}
 use mathlib.Core.List.{List, [], ◌∷◌}
@@ -7,7 +8,6 @@ use Prim.Native.Nat.{ℕ, ◌+◌, ◌≤◌, ◌<◌}
 use native.Mathlib.Omega.{arith}
 use lib.ListN.{length, drop, set, length-set}
 use lib.Seq.{set-set, set_comm}
-use Rattle.cobs.specs.Words.{if◌then◌else◌}
 use Rattle.cobs.specs.Answers.{is_done}
 use Rattle.enc.specs.Stream.{fresh, obeyed, closes_full, moved, wrote, move_all, write_all, finished_length, is_bad, closed, push_told, push_next, push_dest, finish_dest}
 use Rattle.enc.specs.declared.stream.Encoder.{Encoder}

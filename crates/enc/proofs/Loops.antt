@@ -1,4 +1,5 @@
 -- A loop over a piece: what is left, from here, gives what the whole gives from the start. Assumes nothing.
+use Rattle.std.specs.Prelude.{if◌then◌else◌}
 use mathlib.Core.Path.{◌≡◌, refl, sym, ap, ◌∙◌}
 use mathlib.Core.Bool.{Bool}
 use mathlib.Core.List.{List, [], ◌∷◌}
@@ -7,7 +8,6 @@ use native.Mathlib.Numerals.{add-one}
 use native.Mathlib.Omega.{arith}
 use lib.ListN.{length, drop, get_or, drop_of_length-le}
 use lib.Seq.{drop-cons}
-use Rattle.cobs.specs.Words.{if◌then◌else◌}
 use Rattle.cobs.specs.Answers.{longest}
 use Rattle.enc.specs.State.{opened, step, state_push}
 use Rattle.enc.specs.Stream.{obeyed, closes_full, moved, wrote, move_all, write_all, finished_length}

@@ -1,4 +1,5 @@
 -- A piece: the pieces joined, what an accepted piece leaves, and what is never written. Assumes nothing.
+use Rattle.std.specs.Prelude.{if◌then◌else◌}
 use mathlib.Core.Path.{◌≡◌, refl, sym, ◌∙◌}
 use mathlib.Core.Bool.{Bool, true, false, true≢false, not, ◌&&◌}
 use mathlib.Core.List.{List, [], ◌∷◌, ◌++◌}
@@ -9,7 +10,6 @@ use lib.ListN.{length, drop, set}
 use lib.Seq.{drop-set-lt}
 use lib.Dec.{eqb, ltb}
 use borrow.Author.Tests.{eq-eqb, eqb-true, eqb-false, ltb-true, ltb-false, le-ltb, not-true, not-false}
-use Rattle.cobs.specs.Words.{if◌then◌else◌}
 use Rattle.cobs.specs.Answers.{longest}
 use Rattle.enc.specs.Stream.{moved, wrote, move_all, write_all, finished_length, is_bad, closed}
 use Rattle.enc.specs.declared.stream.Encoder.{Encoder}

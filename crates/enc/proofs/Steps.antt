@@ -1,4 +1,5 @@
 -- One byte: the three ways it goes, and what each does to the state and the buffer. Assumes nothing.
+use Rattle.std.specs.Prelude.{if◌then◌else◌}
 use mathlib.Core.Path.{◌≡◌, refl, ◌∙◌}
 use mathlib.Core.Bool.{Bool, true, false, false≢true}
 use mathlib.Core.List.{List}
@@ -7,7 +8,6 @@ use native.Mathlib.Omega.{arith}
 use lib.ListN.{length, drop, set, length-set}
 use lib.Seq.{drop-set-lt}
 use borrow.Author.Tests.{eq-eqb, ne_eqb, eqb-false, ltb-false, le-ltb}
-use Rattle.cobs.specs.Words.{if◌then◌else◌}
 use Rattle.enc.specs.State.{opened, asking, step, no_code, state_bad, state_push, told_asked, state_push_told}
 use Rattle.enc.specs.Stream.{obeyed, closes_full, moved, wrote, finished_length}
 use Rattle.enc.specs.declared.state.EncoderState.{EncoderState}

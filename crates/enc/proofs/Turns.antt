@@ -1,4 +1,5 @@
 -- The turns of the fast encoder's loops: a byte, sixteen zeros, a mark, a group closed. Assumes nothing.
+use Rattle.std.specs.Prelude.{if◌then◌else◌}
 use mathlib.Core.Path.{◌≡◌, refl, sym, ap, ◌∙◌, subst}
 use mathlib.Core.Bool.{true}
 use mathlib.Core.List.{List}
@@ -9,7 +10,6 @@ use lib.Dec.{eqb}
 use lib.ListN.{length, get_or, drop, set, replicate, get_or-replicate, length-drop, length-set}
 use lib.Seq.{paste, length-paste, paste-zero, paste-suc, get_or-drop}
 use borrow.Author.Tests.{eq-eqb, ne_eqb}
-use Rattle.cobs.specs.Words.{if◌then◌else◌}
 use Rattle.blocks.specs.Blocks.{is_clear, is_all, copied, filled}
 use Rattle.blocks.proofs.Blocks.{clear-says, all-says, copied-fits, filled-fits}
 use Rattle.enc.specs.Fast.{Open, Kept, Ends}

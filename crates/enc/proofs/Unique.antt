@@ -1,10 +1,10 @@
 -- Two results that meet a function's promise are equal, for every public function. Assumes nothing.
+use Rattle.std.specs.Prelude.{if◌then◌else◌}
 use mathlib.Core.Path.{◌≡◌, refl, sym, ap₂, ◌∙◌}
 use mathlib.Core.List.{List}
 use Prim.Native.Nat.{ℕ}
 use lib.Dec.{eqb}
 use lib.ListN.{length}
-use Rattle.cobs.specs.Words.{if◌then◌else◌}
 use Rattle.cobs.specs.Answers.{Told, is_done}
 use Rattle.cobs.specs.OneShot.{plain, zeros_around, chosen, encode_told, encode_dest}
 use Rattle.cobs.proofs.Told.{one-result}

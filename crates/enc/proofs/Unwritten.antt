@@ -1,11 +1,11 @@
 -- No piece writes to the place of the code that is open after it. Assumes nothing.
+use Rattle.std.specs.Prelude.{if◌then◌else◌}
 use mathlib.Core.Path.{◌≡◌, refl, ◌∙◌}
 use mathlib.Core.List.{List, [], ◌∷◌}
 use Prim.Native.Nat.{ℕ, ◌+◌, ◌≤◌}
 use native.Mathlib.Omega.{arith}
 use lib.ListN.{length, set, get_or}
 use lib.Seq.{get_or-set_other}
-use Rattle.cobs.specs.Words.{if◌then◌else◌}
 use Rattle.cobs.specs.Answers.{is_done}
 use Rattle.enc.specs.Stream.{obeyed, moved, wrote, move_all, write_all, push_next, push_dest}
 use Rattle.enc.specs.declared.state.EncoderState.{EncoderState}

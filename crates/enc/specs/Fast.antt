@@ -1,7 +1,7 @@
 -- What the private functions behind the one-shot calls tell each other; no promise of a public function cites it.
 -- Assumes nothing.
-use Rattle.std.specs.Prelude.{◌≡◌, List, ◌++◌, ℕ, ◌+◌, ◌-◌, ◌≤◌, ◌<◌, length, get_or, take, drop}
-use Rattle.cobs.specs.Words.{if◌then◌else◌, ◌exceeds◌}
+use Rattle.std.specs.Prelude.{◌≡◌, List, ◌++◌, ℕ, ◌+◌, ◌-◌, ◌≤◌, ◌<◌, length, get_or, take, drop, if◌then◌else◌}
+use Rattle.cobs.specs.Words.{◌exceeds◌}
 use Rattle.cobs.specs.Code.{encode}
 use Rattle.enc.specs.declared.oneshot.Room.{Room}
 use Rattle.enc.specs.declared.oneshot.Room.TheVariants.{Fits, DestBufTooSmall}

@@ -1,6 +1,6 @@
 -- 01 "Encoding calls", EncoderState alone: what each byte asks of the output, and the state after it. Assumes nothing.
-use Rattle.std.specs.Prelude.{Bool, ◌||◌, ℕ, ◌+◌, ◌-◌, eqb}
-use Rattle.cobs.specs.Words.{if◌then◌else◌, ◌exceeds◌}
+use Rattle.std.specs.Prelude.{Bool, ◌||◌, ℕ, ◌+◌, ◌-◌, eqb, if◌then◌else◌}
+use Rattle.cobs.specs.Words.{◌exceeds◌}
 use Rattle.cobs.specs.Answers.{Told, done, bad_state}
 use Rattle.enc.specs.declared.state.EncoderState.{EncoderState}
 use Rattle.enc.specs.declared.state.PushResult.{PushResult}

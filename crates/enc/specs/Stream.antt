@@ -1,6 +1,6 @@
 -- 01 "Encoding calls", streaming: the encoder and its buffer after each byte, and what each call answers. Assumes nothing.
-use Rattle.std.specs.Prelude.{Bool, true, false, not, ◌||◌, ◌&&◌, List, [], ◌∷◌, ℕ, ◌+◌, length, set, eqb}
-use Rattle.cobs.specs.Words.{if◌then◌else◌, ◌exceeds◌}
+use Rattle.std.specs.Prelude.{Bool, true, false, not, ◌||◌, ◌&&◌, List, [], ◌∷◌, ℕ, ◌+◌, length, set, eqb, if◌then◌else◌}
+use Rattle.cobs.specs.Words.{◌exceeds◌}
 use Rattle.cobs.specs.Answers.{Told, done, dest_buf_too_small, too_long, bad_state, longest, is_done, if_done}
 use Rattle.enc.specs.State.{fresh_state, step, no_code}
 use Rattle.enc.specs.declared.state.PushResult.{PushResult}

@@ -1,8 +1,7 @@
 //! One message into a buffer that has room for it, sixteen bytes at a time. A byte of the message stands in the output one
 //! place further on, and one more for each full group before it; where a zero would stand goes the next group's code. So
 //! sixteen bytes are copied as they are, and the codes of the groups that close among them are written after.
-ghost use Rattle.std.specs.Prelude.{◌≡◌, ◌+◌, ◌-◌, ◌≤◌, ◌<◌, eqb, length, set};
-ghost use Rattle.cobs.specs.Words.{if◌then◌else◌};
+ghost use Rattle.std.specs.Prelude.{◌≡◌, ◌+◌, ◌-◌, ◌≤◌, ◌<◌, eqb, length, set, if◌then◌else◌};
 ghost use Rattle.cobs.specs.Code.{encode, over};
 ghost use Rattle.enc.specs.Fast.{Closes, Short, Open, Kept, Ends};
 

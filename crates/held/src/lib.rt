@@ -1,5 +1,6 @@
 //! The streaming encoder that holds its output slice: thin over `enc::stream::Encoder`, which does the work by value.
 #![tactic(auto)]
+
 ghost use Rattle.std.specs.Prelude.{◌≡◌, length};
 ghost use Rattle.enc.specs.Stream.{fresh, start_told, told, push_told, told_finished, finish_told, finish_dest};
 ghost use Rattle.held.specs.Held.{told_opened, over, pushed, told_two, two_told, two_dest};
@@ -80,13 +81,18 @@ impl<'a> CobsEncoder<'a> {
 }
 
 /// Two pieces through one encoder, from the buffer lent to the buffer back.
+#[tactic(auto, unfolding(crate::specs::Held::two_told, crate::specs::Held::two_dest))]
 pub fn encode_two(dest: &mut [u8], first: &[u8], second: &[u8]) -> TwoPieces
     ensures { (told_two result ≡ two_told dest.old first.now second.now)
         × (dest.new ≡ two_dest dest.old first.now second.now) }
 {
-    let made = CobsEncoder::new(dest);
-    let opened = made.answer;
-    let mut encoder = made.encoder;
+    // As `new` begins, with the encoder in a local of its own.
+    let opening = start_on(&mut *dest);
+    let opened = opening.answer;
+    let mut encoder = CobsEncoder {
+        dest: dest,
+        encoder: opening.encoder,
+    };
     let first = encoder.push(first);
     let second = encoder.push(second);
     let finished = encoder.finalize();

@@ -1,5 +1,6 @@
 //! One mark bit for each of 4,096 indices, in 64 words of 64 bits: index i has bit i % 64 of word i / 64.
 #![tactic(auto)]
+
 ghost use Rattle.std.specs.Prelude.{◌≡◌, ◌*◌, ◌<◌, ◌≤◌, length, get_or, set};
 ghost use Rattle.marks.specs.Marks.{bit_at, with_bit, no_marks, marked, set_mark, count_below, marked_below};
 

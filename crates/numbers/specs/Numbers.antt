@@ -1,6 +1,5 @@
 -- Both states of a receiving side as numbers, and back. Assumes nothing.
-use Rattle.std.specs.Prelude.{Bool, true, false, not, ◌&&◌, List, [], ◌∷◌, ◌++◌, ℕ, ◌%◌, eqb, length, get_or, take, drop}
-use Rattle.cobs.specs.Words.{if◌then◌else◌}
+use Rattle.std.specs.Prelude.{Bool, true, false, not, ◌&&◌, List, [], ◌∷◌, ◌++◌, ℕ, ◌%◌, eqb, length, get_or, take, drop, if◌then◌else◌}
 use Rattle.dec.specs.declared.state.DecoderState.{DecoderState}
 use Rattle.dec.specs.declared.state.DecoderState.TheVariants.{Idle, Grab, GrabChain}
 use Rattle.batch.specs.declared.Close.{Close}

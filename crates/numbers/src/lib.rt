@@ -1,5 +1,6 @@
 //! Both states of a receiving side as numbers, and back, for callers who keep them without knowing their fields.
 #![tactic(auto)]
+
 mod fields;
 
 ghost use Rattle.std.specs.Prelude.{◌≡◌, ◌+◌, ◌≤◌, length, drop, take};

@@ -1,6 +1,6 @@
 -- How private helpers say what they do. No public promise cites it. Assumes nothing.
-use Rattle.std.specs.Prelude.{ℕ, ◌-◌}
-use Rattle.cobs.specs.Words.{if◌then◌else◌, ◌exceeds◌}
+use Rattle.std.specs.Prelude.{ℕ, ◌-◌, if◌then◌else◌}
+use Rattle.cobs.specs.Words.{◌exceeds◌}
 use Rattle.place.specs.declared.place.Group.{Group}
 use Rattle.place.specs.declared.place.Group.TheVariants.{Whole, Short}
 

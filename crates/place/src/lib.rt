@@ -1,4 +1,5 @@
 //! Decoding in place, group by group, and with a chosen sentinel.
 #![tactic(auto)]
+
 pub mod place;
 pub mod sentinel;

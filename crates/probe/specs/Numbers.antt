@@ -1,6 +1,6 @@
 -- A streaming state as four numbers in a lent array, for a caller who has no such type. Assumes nothing.
-use Rattle.std.specs.Prelude.{Bool, true, false, not, ◌||◌, List, [], ◌∷◌, ℕ, eqb, length}
-use Rattle.cobs.specs.Words.{if◌then◌else◌, ◌exceeds◌}
+use Rattle.std.specs.Prelude.{Bool, true, false, not, ◌||◌, List, [], ◌∷◌, ℕ, eqb, length, if◌then◌else◌}
+use Rattle.cobs.specs.Words.{◌exceeds◌}
 use Rattle.cobs.specs.Code.{over}
 use Rattle.cobs.specs.Answers.{Told, done, dest_buf_too_small, bad_state, if_done}
 use Rattle.enc.specs.State.{opened}

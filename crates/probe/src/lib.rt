@@ -1,5 +1,6 @@
 //! The streaming calls over the C convention, for rust/compare alone: a state crosses as four numbers in a lent array.
 #![tactic(auto)]
+
 mod numbers;
 mod told;
 

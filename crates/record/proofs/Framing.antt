@@ -1,9 +1,9 @@
 -- A frame written, one law for each way through `write_frame`. Assumes nothing.
-use Rattle.std.proofs.Common.{◌≡◌, ℕ, ◌+◌, ◌-◌, ◌/◌, ◌<◌, ◌≤◌, Bool, true, false, List, [], ◌∷◌, ◌++◌, length, take, drop, set, sym, refl, ap, ◌∙◌, ap₂, true≢false, append_assoc, arith, length-append, take-append-drop, length-take-le, ltb-false, ltb-true, le-ltb, lt-ltb}
+use Rattle.std.proofs.Common.{◌≡◌, ℕ, ◌+◌, ◌-◌, ◌/◌, ◌<◌, ◌≤◌, Bool, true, false, List, [], ◌∷◌, ◌++◌, length, take, drop, set, sym, refl, ap, ◌∙◌, ap₂, true≢false, append_assoc, arith, length-append, take-append-drop, length-take-le, ltb-false, ltb-true, le-ltb, lt-ltb, if◌then◌else◌}
 use lib.Seq.{drop-append-le}
 use types.Run.{OneOf, miss}
 use denote.Enum.Declared.{tag_of}
-use Rattle.cobs.specs.Words.{if◌then◌else◌, ◌exceeds◌}
+use Rattle.cobs.specs.Words.{◌exceeds◌}
 use Rattle.cobs.specs.Code.{encode, over}
 use Rattle.cobs.specs.Answers.{Told, done, dest_buf_too_small, bad_length, longest, is_done}
 use Rattle.cobs.specs.OneShot.{plain, finished, encode_told, encode_dest}

@@ -1,9 +1,8 @@
 -- The round trip: a record that is written is read back, and one that is read is written back the same. Assumes nothing.
-use Rattle.std.proofs.Common.{◌≡◌, ℕ, suc, ◌+◌, ◌-◌, ◌*◌, ◌/◌, ◌%◌, ◌<◌, ◌≤◌, Bool, true, false, ◌&&◌, leb, List, [], ◌∷◌, ◌++◌, length, get_or, take, drop, replicate, ℤ, pos, negsuc, sym, refl, ap, ◌∙◌, ap₂, true≢false, mod-eq_of_lt, zero-add, arith, drop-cons, le-leb, leb-true}
+use Rattle.std.proofs.Common.{◌≡◌, ℕ, suc, ◌+◌, ◌-◌, ◌*◌, ◌/◌, ◌%◌, ◌<◌, ◌≤◌, Bool, true, false, ◌&&◌, leb, List, [], ◌∷◌, ◌++◌, length, get_or, take, drop, replicate, ℤ, pos, negsuc, sym, refl, ap, ◌∙◌, ap₂, true≢false, mod-eq_of_lt, zero-add, arith, drop-cons, le-leb, leb-true, if◌then◌else◌}
 use native.Mathlib.Nat.{add-mul-mod_self_left, add-mul-div_left, div-eq_of_lt}
 use native.Mathlib.Decide.{dec_lt}
 use lib.Signed.{mag}
-use Rattle.cobs.specs.Words.{if◌then◌else◌}
 use Rattle.cobs.specs.Code.{Bytes}
 use Rattle.cobs.specs.Answers.{done, bad_record, is_done}
 use Rattle.cobs.proofs.Told.{unlike}

@@ -1,6 +1,5 @@
 -- Two results that meet a function's promise are equal, for every public function. Assumes nothing.
-use Rattle.std.proofs.Common.{◌≡◌, ℕ, Bool, eqb, List, length, drop, sym, refl, ◌∙◌, ap₂}
-use Rattle.cobs.specs.Words.{if◌then◌else◌}
+use Rattle.std.proofs.Common.{◌≡◌, ℕ, Bool, eqb, List, length, drop, sym, refl, ◌∙◌, ap₂, if◌then◌else◌}
 use Rattle.cobs.specs.Answers.{Told, is_done}
 use Rattle.cobs.proofs.Told.{one-result}
 use Rattle.record.specs.Record.{told_write, write_told, written_bytes, read_of, told_class, class_of}

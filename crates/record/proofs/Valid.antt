@@ -1,8 +1,7 @@
 -- Which fields are valid, one law for each way through `is_valid`, and the class of a batch difference. Assumes nothing.
-use Rattle.std.proofs.Common.{◌≡◌, ℕ, ◌+◌, ◌-◌, ◌%◌, ◌^◌, ◌<◌, ◌≤◌, Bool, true, false, ◌&&◌, ◌||◌, eqb, leb, refl, arith, w16, Fits, eq-eqb, ne_eqb, eqb-true, le-leb, leb-true}
+use Rattle.std.proofs.Common.{◌≡◌, ℕ, ◌+◌, ◌-◌, ◌%◌, ◌^◌, ◌<◌, ◌≤◌, Bool, true, false, ◌&&◌, ◌||◌, eqb, leb, refl, arith, w16, Fits, eq-eqb, ne_eqb, eqb-true, le-leb, leb-true, if◌then◌else◌}
 use mathlib.Core.Bool.{or-false, false≢true}
 use borrow.Author.Tests.{lt-leb}
-use Rattle.cobs.specs.Words.{if◌then◌else◌}
 use Rattle.cobs.specs.Answers.{Told, done, ahead, stale, is_done}
 use Rattle.cobs.proofs.Told.{same-told}
 use Rattle.record.specs.Record.{is_particle, is_close, is_valid, class_of, told_class}

@@ -1,5 +1,6 @@
 -- After a delivery: the total is that of the distinct particles that arrived, repeats change it by nothing, and where the caller
 -- leaves the table alone each of them stands in its slot. Assumes nothing.
+use Rattle.std.specs.Prelude.{if◌then◌else◌}
 use mathlib.Core.Path.{◌≡◌, refl, sym, ap, ap₂, ◌∙◌}
 use mathlib.Core.Bool.{Bool, true, false, ◌&&◌, ◌||◌, true≢false, or_assoc}
 use mathlib.Core.List.{List, [], ◌∷◌, ◌++◌}
@@ -7,7 +8,6 @@ use Prim.Native.Nat.{ℕ}
 use lib.Dec.{eqb}
 use lib.ListN.{length}
 use borrow.Author.Tests.{eqb-true}
-use Rattle.cobs.specs.Words.{if◌then◌else◌}
 use Rattle.dec.proofs.Cases.{by_bool}
 use Rattle.batch.specs.declared.Receiver.{Receiver}
 use Rattle.batch.proofs.Good.{open-good}

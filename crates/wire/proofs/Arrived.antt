@@ -1,5 +1,6 @@
 -- The receiver over records of one batch: whatever has arrived, its marks, total and close say it, and no record is refused.
 -- Assumes nothing.
+use Rattle.std.specs.Prelude.{if◌then◌else◌}
 use mathlib.Core.Path.{◌≡◌, refl, sym, ap, ap₂, ◌∙◌}
 use mathlib.Core.Bool.{Bool, true, false}
 use mathlib.Core.List.{List, [], ◌∷◌, ◌++◌}
@@ -9,7 +10,6 @@ use native.Mathlib.Decide.{ℕ_discrete}
 use native.Mathlib.Omega.{arith}
 use lib.ListN.{length}
 use borrow.Author.Tests.{eq-eqb, le-leb, lt-leb, le-ltb}
-use Rattle.cobs.specs.Words.{if◌then◌else◌}
 use Rattle.cobs.specs.Answers.{done}
 use Rattle.marks.specs.Marks.{marked, set_mark, marked_below}
 use Rattle.marks.proofs.Marks.{none-marked, set-mark-here, set-mark-other, set-mark-length}

@@ -1,4 +1,5 @@
 -- Each way through `receive`, on plain values. Assumes nothing.
+use Rattle.std.specs.Prelude.{if◌then◌else◌}
 use mathlib.Core.Path.{◌≡◌, refl, sym, ap, ap₂, ◌∙◌}
 use mathlib.Core.Bool.{Bool, true, false, ◌||◌, false≢true}
 use mathlib.Core.List.{List, [], ◌∷◌}
@@ -9,7 +10,6 @@ use lib.ListN.{length, take}
 use types.Run.{OneOf, miss}
 use denote.Enum.Declared.{tag_of}
 use Rattle.batch.specs.contracts.Standing.{the_type}
-use Rattle.cobs.specs.Words.{if◌then◌else◌}
 use Rattle.cobs.specs.Answers.{bad_state, is_done}
 use Rattle.cobs.proofs.Told.{unlike}
 use Rattle.dec.specs.State.{stepped}

@@ -183,6 +183,10 @@ module _ {S View : Type 0} (taker : Taker S View) (Fine : S → Type 0) (fit : (
   pub alike-trans : {r s t : Run (Side S) View} → Alike r s → Alike s t → Alike r t
   alike-trans a b = record { said = a.said ∙ b.said; side = a.side ∙ b.side }
 
+  side-goes : (w : Side S) → Good w → (b : ℕ) → is_more (byte_outcome w.decoder (length w.buffer) b) ≡ true → (received taker w (b ∷ [])).side ≡ past w b
+  side-goes w g b e =
+      ap (λ (r : Received (Side S)). r.side) (received-goes w g b [] e ∙ ap later (received_none (past w b) (past-good w g b)))
+
   -- and a run goes on from the byte after it
   run-goes : (w : Side S) → Good w → (b : ℕ) (p : List ℕ) (n k : ℕ) → length p ≤ n → is_more (byte_outcome w.decoder (length w.buffer) b) ≡ true
       → Alike (run_in (suc n) k w (b ∷ p)) (run_in n k (past w b) p)
@@ -190,12 +194,15 @@ module _ {S View : Type 0} (taker : Taker S View) (Fine : S → Type 0) (fit : (
   run-goes w g b [] zero k h e =
       rw (received-goes w g b [] e, received_none (past w b) (past-good w g b)) (record { said = refl; side = refl })
   run-goes w g b [] (suc n) k h e =
-      rw (received-goes w g b [] e, received_none (past w b) (past-good w g b)) (record { said = refl; side = refl })
+      rw (received-goes w g b [] e, received_none (past w b) (past-good w g b)) (record { said = refl; side = side-goes w g b e })
   run-goes w g b (c ∷ p) zero k h e = absurd (not-suc-le-zero h)
   run-goes w g b (c ∷ p) (suc n) k h e =
       let v : Side S = past w b in
       let r : Received (Side S) = received taker v (c ∷ p) in
-      rw (received-goes w g b (c ∷ p) e)
+      subst
+      (λ (x : Received (Side S)).
+      Alike (heard x.answer (taker.shows x.side.state) (run_in (suc n) (suc k) x.side (drop x.consumed (b ∷ c ∷ p)))) (run_in (suc n) k v (c ∷ p)))
+      (sym (received-goes w g b (c ∷ p) e))
       (heard-alike r.answer (taker.shows r.side.state) _ _
       (subst (λ (s : Run (Side S) View). Alike s (run_in n (suc k) r.side (drop r.consumed (c ∷ p))))
       (enough n (suc n) (suc k) r.side (received-good v (past-good w g b) (c ∷ p)) (drop r.consumed (c ∷ p)) (omega (arith, rest-shorter v (past-good w g b) c p)) (omega (arith, rest-shorter v (past-good w g b) c p)))

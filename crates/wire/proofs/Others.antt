@@ -1,4 +1,5 @@
 -- A frame of another batch: Stale or Ahead at its first record, and nothing is changed. Assumes nothing.
+use Rattle.std.specs.Prelude.{if◌then◌else◌}
 use mathlib.Core.Path.{◌≡◌, refl}
 use mathlib.Core.List.{List, [], ◌∷◌, ◌++◌}
 use Prim.Native.Nat.{ℕ, ◌+◌, ◌-◌, ◌*◌, ◌/◌, ◌%◌, ◌<◌}
@@ -7,7 +8,6 @@ use native.Mathlib.Omega.{arith}
 use lib.Dec.{leb}
 use lib.ListN.{length}
 use borrow.Author.Tests.{ne_eqb}
-use Rattle.cobs.specs.Words.{if◌then◌else◌}
 use Rattle.record.specs.Record.{written_bytes, class_of}
 use Rattle.batch.specs.Verdict.{verdict, on_read, on_class}
 use Rattle.batch.specs.Frame.{told, refused, take_all, outcome, accept_told, accept_next, accept_table}

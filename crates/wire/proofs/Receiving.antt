@@ -1,5 +1,6 @@
 -- The receiver over frames of one batch: each is taken whole, and what it then answers and shows is what is due.
 -- Assumes nothing.
+use Rattle.std.specs.Prelude.{if◌then◌else◌}
 use mathlib.Core.Path.{◌≡◌, refl, sym, ap, ◌∙◌, subst}
 use mathlib.Core.Bool.{false}
 use mathlib.Core.List.{List, [], ◌∷◌, ◌++◌, append_assoc, append-nil}
@@ -10,7 +11,6 @@ use lib.Dec.{ltb}
 use lib.ListN.{length, length-append}
 use lib.Seq.{drop_at}
 use borrow.Author.Tests.{eq-eqb, ne_eqb, le-ltb, ltb-false}
-use Rattle.cobs.specs.Words.{if◌then◌else◌}
 use Rattle.marks.specs.Marks.{marked, marked_below, count_below}
 use Rattle.marks.proofs.Counts.{count_same, count_add, count-both, count_none, all-counted}
 use Rattle.record.specs.Record.{written_bytes}

@@ -1,9 +1,9 @@
 -- Two results that meet a function's promise are equal, for every public function. Assumes nothing.
+use Rattle.std.specs.Prelude.{if◌then◌else◌}
 use mathlib.Core.Path.{◌≡◌, refl, sym, ap, ◌∙◌}
 use mathlib.Core.List.{List}
 use Prim.Native.Nat.{ℕ}
 use lib.Dec.{eqb}
-use Rattle.cobs.specs.Words.{if◌then◌else◌}
 use Rattle.cobs.specs.Answers.{Told}
 use Rattle.cobs.proofs.Told.{same-told}
 use Rattle.dec.specs.declared.stream.CobsDecoder.{CobsDecoder}

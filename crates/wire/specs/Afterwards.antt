@@ -1,7 +1,6 @@
 -- What demand 3 leaves when a delivery is over: what the slots hold, and what repeats change. `proofs/Afterwards.antt` proves it
 -- of every delivery. Assumes nothing.
-use Rattle.std.specs.Prelude.{◌≡◌, Bool, true, false, ◌&&◌, ◌||◌, List, [], ◌∷◌, ◌++◌, ℕ, eqb}
-use Rattle.cobs.specs.Words.{if◌then◌else◌}
+use Rattle.std.specs.Prelude.{◌≡◌, Bool, true, false, ◌&&◌, ◌||◌, List, [], ◌∷◌, ◌++◌, ℕ, eqb, if◌then◌else◌}
 use Rattle.record.specs.Record.{written_bytes}
 use Rattle.batch.specs.State.{slot}
 use Rattle.batch.specs.declared.Receiver.{Receiver}

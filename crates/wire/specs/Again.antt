@@ -1,7 +1,6 @@
 -- A call made again and again over the pieces that come, each on what the call before it left; whatever the call is.
 -- Assumes nothing.
-use Rattle.std.specs.Prelude.{List, [], ◌∷◌, ◌++◌, ℕ, zero, suc, length, drop, eqb}
-use Rattle.cobs.specs.Words.{if◌then◌else◌}
+use Rattle.std.specs.Prelude.{List, [], ◌∷◌, ◌++◌, ℕ, zero, suc, length, drop, eqb, if◌then◌else◌}
 use Rattle.cobs.specs.Answers.{Told, more}
 
 -- What a call comes to: what it leaves, what it answers, and how many bytes of the piece it took.

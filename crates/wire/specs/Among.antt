@@ -1,8 +1,7 @@
 -- What else may come over the wire: frames of other batches among ours, such as a late repeat of the last batch, and idle zeros
 -- before, between and after frames. Demand 3's own delivery is the case with neither. `proofs/Among.antt` proves it of every
 -- delivery. Assumes nothing.
-use Rattle.std.specs.Prelude.{◌≡◌, ◌≢◌, List, [], ◌∷◌, ◌++◌, ℕ, ◌+◌, ◌-◌, ◌%◌, leb}
-use Rattle.cobs.specs.Words.{if◌then◌else◌}
+use Rattle.std.specs.Prelude.{◌≡◌, ◌≢◌, List, [], ◌∷◌, ◌++◌, ℕ, ◌+◌, ◌-◌, ◌%◌, leb, if◌then◌else◌}
 use Rattle.cobs.specs.Answers.{Told, stale, ahead}
 use Rattle.cobs.specs.Code.{encode}
 use Rattle.wire.specs.Again.{Said, Run, joined}

@@ -1,8 +1,8 @@
 -- Demand 3's sender: a batch, the frames that hold nothing else, and what the receiver is to answer to those that arrived.
 -- Assumes nothing.
-use Rattle.std.specs.Prelude.{Bool, true, false, ◌||◌, List, [], ◌∷◌, ◌++◌, ℕ, zero, suc, ◌+◌, ◌-◌, ◌≤◌, ◌<◌, eqb, ℤ, pos, length, get_or}
+use Rattle.std.specs.Prelude.{Bool, true, false, ◌||◌, List, [], ◌∷◌, ◌++◌, ℕ, zero, suc, ◌+◌, ◌-◌, ◌≤◌, ◌<◌, eqb, ℤ, pos, length, get_or, if◌then◌else◌}
 use Rattle.std.specs.Int.Signed.{mag}
-use Rattle.cobs.specs.Words.{if◌then◌else◌, ◌exceeds◌}
+use Rattle.cobs.specs.Words.{◌exceeds◌}
 use Rattle.cobs.specs.Answers.{Told, still_open, missing, complete}
 use Rattle.marks.specs.Marks.{count_below}
 use Rattle.record.specs.Record.{written_bytes}

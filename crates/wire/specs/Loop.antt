@@ -1,7 +1,6 @@
 -- The receiving loop, whatever takes the frames: a call decodes a piece up to the end of its first frame and hands that
 -- frame on first; the loop is nothing but that call again and again. Assumes nothing.
-use Rattle.std.specs.Prelude.{Bool, ◌||◌, List, [], ◌∷◌, ◌++◌, ℕ, length, take}
-use Rattle.cobs.specs.Words.{if◌then◌else◌}
+use Rattle.std.specs.Prelude.{Bool, ◌||◌, List, [], ◌∷◌, ◌++◌, ℕ, length, take, if◌then◌else◌}
 use Rattle.cobs.specs.Answers.{Told, tell, bad_state, is_done}
 use Rattle.cobs.specs.Code.{encode}
 use Rattle.dec.specs.Stream.{Outcome, is_more, bad, push_outcome, push_dest}

@@ -1,5 +1,6 @@
 //! One call from a piece of the wire to the batch receiver.
 #![tactic(auto)]
+
 ghost use Rattle.std.specs.Prelude.{◌≡◌, length};
 ghost use Rattle.batch.specs.Frame.{told};
 ghost use Rattle.wire.specs.Loop.{received};

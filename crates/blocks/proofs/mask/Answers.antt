@@ -27,8 +27,8 @@ returns c =
     let a = c.args in
     l.invariant.3
     ∙ elim c.if-n-buf.branch [
-      then-n-buf w ↦ let e : l.i ≡ a.n = omega arith in ap (λ (k : ℕ). masked_front a.sentinel k a.buf.now) e
-    | else-n-buf w ↦
-      let e : l.i ≡ length a.buf.now = omega arith in
-      ap (λ (k : ℕ). masked_front a.sentinel k a.buf.now) e ∙ masked-end a.sentinel a.n a.buf.now (omega arith)
+      | then-n-buf w ↦ let e : l.i ≡ a.n = omega arith in ap (λ (k : ℕ). masked_front a.sentinel k a.buf.now) e
+      | else-n-buf w ↦
+          let e : l.i ≡ length a.buf.now = omega arith in
+          ap (λ (k : ℕ). masked_front a.sentinel k a.buf.now) e ∙ masked-end a.sentinel a.n a.buf.now (omega arith)
     ]

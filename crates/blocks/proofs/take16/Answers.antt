@@ -34,7 +34,7 @@ write16-requires c = stands-yes _ _ c.stand.ensures (ap not c.if-not-stand.false
 
 -- they are copied
 memory :
-  (d : List ℕ) (at : ℕ) (s : List ℕ) (from : ℕ) → at + 16 ≤ length d → from + 16 ≤ length s → (written block : List ℕ)
+    (d : List ℕ) (at : ℕ) (s : List ℕ) (from : ℕ) → at + 16 ≤ length d → from + 16 ≤ length s → (written block : List ℕ)
     → block ≡ take 16 (drop from s) → written ≡ paste d at block 16 → written ≡ copied d at s from
 memory d at s from dest_room src_room written block is was =
     was ∙ paste-block d at block (drop from s) is ∙ sym (copied-fits d at s from dest_room src_room)
@@ -46,7 +46,7 @@ returns-then-other-eq0 c =
     let src_room : a.from + 16 ≤ length a.src.now = stands-yes _ _ c.stand-2.ensures (ap not c.if-not-stand-2.false) in
     record {
       answer = taken-zeros a.dest.now a.at a.src.now a.from dest_room src_room c.read16-block.result c.read16-block.ensures c.any_unlike-other.result c.any_unlike-other.ensures c.if-other-eq0.true;
-      memory = memory a.dest.now a.at a.src.now a.from dest_room src_room _ c.read16-block.result c.read16-block.ensures c.write16.ensures
+      memory = memory a.dest.now a.at a.src.now a.from dest_room src_room _ c.read16-block.result c.read16-block.ensures c.write16.ensures;
     }
 
 pub returns-then-zero-eq0 : goal.returns-then-zero-eq0
@@ -56,7 +56,7 @@ returns-then-zero-eq0 c =
     let src_room : a.from + 16 ≤ length a.src.now = stands-yes _ _ c.stand-2.ensures (ap not c.if-not-stand-2.false) in
     record {
       answer = taken-clear a.dest.now a.at a.src.now a.from dest_room src_room c.read16-block.result c.read16-block.ensures c.any_unlike-other.result c.any_zero-zero.result c.any_unlike-other.ensures c.any_zero-zero.ensures c.if-other-eq0.false c.if-zero-eq0.true;
-      memory = memory a.dest.now a.at a.src.now a.from dest_room src_room _ c.read16-block.result c.read16-block.ensures c.write16.ensures
+      memory = memory a.dest.now a.at a.src.now a.from dest_room src_room _ c.read16-block.result c.read16-block.ensures c.write16.ensures;
     }
 
 pub returns-else-zero-eq0 : goal.returns-else-zero-eq0
@@ -66,5 +66,5 @@ returns-else-zero-eq0 c =
     let src_room : a.from + 16 ≤ length a.src.now = stands-yes _ _ c.stand-2.ensures (ap not c.if-not-stand-2.false) in
     record {
       answer = taken-mixed a.dest.now a.at a.src.now a.from dest_room src_room c.read16-block.result c.read16-block.ensures c.any_unlike-other.result c.any_zero-zero.result c.any_unlike-other.ensures c.any_zero-zero.ensures c.if-other-eq0.false c.if-zero-eq0.false;
-      memory = memory a.dest.now a.at a.src.now a.from dest_room src_room _ c.read16-block.result c.read16-block.ensures c.write16.ensures
+      memory = memory a.dest.now a.at a.src.now a.from dest_room src_room _ c.read16-block.result c.read16-block.ensures c.write16.ensures;
     }

@@ -1,5 +1,4 @@
 -- `dec::decode::stopped` meets its contract. Assumes nothing.
-use borrow.Author.Rules.{rules}
 use Rattle.dec.proofs.decode.stopped.Goals as goal
 
 pub returns-in-Frame : goal.returns-in-Frame

@@ -1,33 +1,15 @@
 -- `dec::fast::by_sixteen` meets its contract: block by block. Assumes nothing.
-use mathlib.Core.Path.{◌≡◌, sym, ◌∙◌}
-use mathlib.Core.Bool.{true}
-use mathlib.Core.Logic.{⊎_elim}
-use mathlib.Core.List.{List}
-use Prim.Native.Nat.{ℕ, ◌+◌, ◌-◌, ◌≤◌}
+use mathlib.Core.Path.{◌≡◌, sym, ap, ◌∙◌}
+use mathlib.Core.Bool.{true, not}
+use Prim.Native.Nat.{◌+◌, ◌≤◌}
 use native.Mathlib.Omega.{arith}
 use lib.ListN.{length}
 use borrow.Author.Tests.{not-false}
 use Rattle.blocks.specs.Blocks.{is_clear}
 use Rattle.blocks.proofs.Blocks.{clear-says}
-use Rattle.dec.proofs.Sixteen.{Blocks, blocks-first, block-stands, block-turn}
-use mathlib.Core.Path.{ap}
-use mathlib.Core.Bool.{not}
+use Rattle.dec.proofs.Sixteen.{blocks-first, block-stands, block-turn}
 use Rattle.dec.proofs.fast.by_sixteen.Goals as goal
-use Rattle.dec.proofs.fast.by_sixteen.Goals.{After-copy16, At-loop-dest}
-
--- a turn, with its block copied
-module _ (c : After-copy16) where
-  abbrev turn : At-loop-dest
-  turn = c.before.before.before.before.before.before
-
-  abbrev piece : List ℕ
-  piece = turn.before.before.before.args.piece.now
-
-  clear : is_clear piece turn.loop.i ≡ true
-  clear = sym c.clear16.ensures ∙ not-false _ (ap not c.if-not-clear16.false)
-
-  stands : (turn.loop.i + 16 ≤ length piece) × (turn.loop.place + 16 ≤ length c.copy16.new.dest)
-  stands = block-stands _ _ _ _ _ _ _ _ _ _ _ turn.loop.inv c.loop-dest-test.true clear _ c.copy16.ensures
+use Rattle.dec.proofs.fast.by_sixteen.Goals.{then-code-eq255+else-left-lt16, else-code-eq255}
 
 pub loop-dest-init : goal.loop-dest-init
 loop-dest-init c =
@@ -38,22 +20,40 @@ overflow_sub-dest c = omega (arith, c.loop-dest.invariant.room, c.loop-dest.inva
 
 pub codes-after-requires : goal.codes-after-requires
 codes-after-requires c =
-    record { i_in_bounds = stands c.before.before.before; clear = (clear-says _ _ (clear c.before.before.before)).1; bytes = (turn c.before.before.before).loop.invariant.bytes; le_left = λ w. ⊎_elim (λ v. omega (arith, v, w)) (λ v. absurd (omega (arith, v, w))) c.if-code-eq255.branch }
+    let clear : is_clear c.args.piece.now c.loop-dest.i ≡ true = sym c.clear16.ensures ∙ not-false _ (ap not c.if-not-clear16.false) in
+    record {
+      i_in_bounds = block-stands _ _ _ _ _ _ _ _ _ _ _ c.loop-dest.invariant c.loop-dest-test.true clear _ c.copy16.ensures;
+      clear = (clear-says _ _ clear).1;
+      bytes = c.loop-dest.invariant.bytes;
+      le_left = λ w. elim c.if-code-eq255.branch [ then-code-eq255+else-left-lt16 v ↦ omega arith | else-code-eq255 v ↦ omega arith ];
+    }
 
 pub overflow_add-i : goal.overflow_add-i
-overflow_add-i c = omega (arith, stands c.before.before.before.before.before.before)
+overflow_add-i c =
+    let clear : is_clear c.args.piece.now c.loop-dest.i ≡ true = sym c.clear16.ensures ∙ not-false _ (ap not c.if-not-clear16.false) in
+    let stands : (c.loop-dest.i + 16 ≤ length c.args.piece.now) × (c.loop-dest.place + 16 ≤ length c.copy16.new.dest) =
+    block-stands _ _ _ _ _ _ _ _ _ _ _ c.loop-dest.invariant c.loop-dest-test.true clear _ c.copy16.ensures in
+    omega arith
 
 pub overflow_add-place : goal.overflow_add-place
 overflow_add-place c =
-    omega (arith, stands c.before.before.before.before.before.before, c.copy16.auto.0)
+    let clear : is_clear c.args.piece.now c.loop-dest.i ≡ true = sym c.clear16.ensures ∙ not-false _ (ap not c.if-not-clear16.false) in
+    let stands : (c.loop-dest.i + 16 ≤ length c.args.piece.now) × (c.loop-dest.place + 16 ≤ length c.copy16.new.dest) =
+    block-stands _ _ _ _ _ _ _ _ _ _ _ c.loop-dest.invariant c.loop-dest-test.true clear _ c.copy16.ensures in
+    omega arith
 
 pub loop-dest-smaller : goal.loop-dest-smaller
-loop-dest-smaller c = omega (arith, stands c.before.before.before.before.before.before)
+loop-dest-smaller c =
+    let clear : is_clear c.args.piece.now c.loop-dest.i ≡ true = sym c.clear16.ensures ∙ not-false _ (ap not c.if-not-clear16.false) in
+    let stands : (c.loop-dest.i + 16 ≤ length c.args.piece.now) × (c.loop-dest.place + 16 ≤ length c.copy16.new.dest) =
+    block-stands _ _ _ _ _ _ _ _ _ _ _ c.loop-dest.invariant c.loop-dest-test.true clear _ c.copy16.ensures in
+    omega arith
 
 pub loop-dest-preserved : goal.loop-dest-preserved
 loop-dest-preserved c =
+    let clear : is_clear c.args.piece.now c.loop-dest.i ≡ true = sym c.clear16.ensures ∙ not-false _ (ap not c.if-not-clear16.false) in
     let g = c.codes-after in
-    block-turn _ _ _ _ _ _ _ _ _ _ _ (turn c.before.before.before.before.before.before).loop.invariant c.loop-dest-test.true (clear c.before.before.before.before.before.before) _ c.copy16.ensures _ _ g.ensures.group _ g.ensures.decoded
+    block-turn _ _ _ _ _ _ _ _ _ _ _ c.loop-dest.invariant c.loop-dest-test.true clear _ c.copy16.ensures _ _ g.ensures.group _ g.ensures.decoded
 
 pub shape_of-dest-after-loop-dest : goal.shape_of-dest-after-loop-dest
 shape_of-dest-after-loop-dest c = c.loop-dest.invariant.ahead.long

@@ -1,10 +1,7 @@
 -- `dec::fast::bytes` meets its contract: `k` bytes are passed. Assumes nothing.
-use mathlib.Core.Path.{◌≡◌, refl}
-use Prim.Native.Nat.{◌-◌, ◌≤◌}
+use mathlib.Core.Path.{refl}
 use native.Mathlib.Omega.{arith}
-use lib.ListN.{length, length-set}
-use borrow.Author.Rules.{rules}
-use Rattle.dec.specs.Helpers.{Passed}
+use lib.ListN.{length-set}
 use Rattle.dec.proofs.Inside.{passed_none, passed-more}
 use Rattle.dec.proofs.fast.bytes.Goals as goal
 

@@ -1,11 +1,8 @@
 -- `dec::fast::bytes` meets its contract: `k` bytes are passed. Assumes nothing.
-use mathlib.Core.Path.{◌≡◌, refl}
+use mathlib.Core.Path.{◌≡◌}
 use Prim.Native.Nat.{◌-◌, ◌≤◌}
-use native.Mathlib.Omega.{arith}
-use lib.ListN.{length, length-set}
-use borrow.Author.Rules.{rules}
+use lib.ListN.{length}
 use Rattle.dec.specs.Helpers.{Passed}
-use Rattle.dec.proofs.Inside.{passed_none, passed-more}
 use Rattle.dec.proofs.fast.bytes.Given as goal
 
 abbrev pub invariant-loop-k : goal.invariant-loop-k

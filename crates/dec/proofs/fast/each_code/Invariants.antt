@@ -1,9 +1,6 @@
 -- `dec::fast::each_code` meets its contract: from code to code. Assumes nothing.
-use mathlib.Core.Path.{◌≡◌, sym, ◌∙◌}
-use Prim.Native.Nat.{◌-◌, ◌≤◌}
-use native.Mathlib.Omega.{arith}
-use borrow.Author.Rules.{rules}
-use Rattle.dec.proofs.Sixteen.{Patching, patch-first, patch-code, patch-last}
+use Prim.Native.Nat.{◌-◌}
+use Rattle.dec.proofs.Sixteen.{Patching}
 use Rattle.dec.proofs.fast.each_code.Given as goal
 
 abbrev pub invariant-loop-q : goal.invariant-loop-q

@@ -1,5 +1,4 @@
 -- `dec::stream::ended` meets its contract. Assumes nothing.
-use borrow.Author.Rules.{rules}
 use Rattle.dec.proofs.stream.ended.Goals as goal
 
 pub returns : goal.returns

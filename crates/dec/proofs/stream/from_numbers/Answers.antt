@@ -1,7 +1,6 @@
 -- `dec::stream::from_numbers` meets its contract. Assumes nothing.
 use mathlib.Core.Path.{refl}
 use borrow.Author.Tests.{eq-eqb, ne_eqb}
-use borrow.Author.Rules.{rules}
 use Rattle.dec.proofs.stream.from_numbers.Goals as goal
 
 pub returns-then-r-eq255 : goal.returns-then-r-eq255

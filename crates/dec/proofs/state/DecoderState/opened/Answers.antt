@@ -1,6 +1,5 @@
 -- `dec::state::DecoderState::opened` meets its contract. Assumes nothing.
 use Rattle.dec.proofs.Steps.{opened-full, opened-other}
-use borrow.Author.Rules.{rules}
 use Rattle.dec.proofs.state.DecoderState.opened.Goals as goal
 
 pub returns-in-255 : goal.returns-in-255

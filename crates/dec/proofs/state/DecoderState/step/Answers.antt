@@ -1,6 +1,5 @@
 -- `dec::state::DecoderState::step` meets its contract: a law for each way through it, and the telling from it. Assumes nothing.
 use Rattle.dec.proofs.Steps.{zero-idle, zero-grab, zero-chain, code-idle, code-grab, code-chain, byte-grab, byte-chain, is-told}
-use borrow.Author.Rules.{rules}
 use Rattle.dec.proofs.state.DecoderState.step.Goals as goal
 
 pub returns-then-left-eq0 : goal.returns-then-left-eq0

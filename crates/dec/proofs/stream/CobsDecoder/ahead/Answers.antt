@@ -1,6 +1,5 @@
 -- `dec::stream::CobsDecoder::ahead` meets its contract. Assumes nothing.
 use Rattle.dec.proofs.Inside.{from-state}
-use borrow.Author.Rules.{rules}
 use Rattle.dec.proofs.stream.CobsDecoder.ahead.Goals as goal
 
 pub returns-in-Grab : goal.returns-in-Grab

@@ -1,6 +1,5 @@
 -- `dec::stream::CobsDecoder::bad` meets its contract: the tests one by one. Assumes nothing.
 use Rattle.dec.proofs.Good.{bad-beyond, bad-idle, bad-open}
-use borrow.Author.Rules.{rules}
 use Rattle.dec.proofs.stream.CobsDecoder.bad.Goals as goal
 
 pub returns-then-room-self : goal.returns-then-room-self

@@ -1,5 +1,4 @@
 -- `dec::stream::CobsDecoder::new` meets its contract. Assumes nothing.
-use borrow.Author.Rules.{rules}
 use Rattle.dec.proofs.stream.CobsDecoder.new.Goals as goal
 
 pub returns : goal.returns

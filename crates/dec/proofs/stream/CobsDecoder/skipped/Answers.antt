@@ -1,6 +1,5 @@
 -- `dec::stream::CobsDecoder::skipped` meets its contract. Assumes nothing.
 use borrow.Author.Tests.{eq-eqb, ne_eqb}
-use borrow.Author.Rules.{rules}
 use Rattle.dec.proofs.stream.CobsDecoder.skipped.Goals as goal
 
 pub returns-then-byte-eq0 : goal.returns-then-byte-eq0

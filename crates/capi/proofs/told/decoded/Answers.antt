@@ -1,0 +1,13 @@
+use Rattle.capi.proofs.told.decoded.Goals as goal
+
+pub returns-in-Frame : goal.returns-in-Frame
+returns-in-Frame c = cc
+
+pub returns-in-EmptyFrame : goal.returns-in-EmptyFrame
+returns-in-EmptyFrame c = cc
+
+pub returns-in-InvalidFrame : goal.returns-in-InvalidFrame
+returns-in-InvalidFrame c = cc
+
+pub returns-in-TargetBufTooSmall : goal.returns-in-TargetBufTooSmall
+returns-in-TargetBufTooSmall c = cc

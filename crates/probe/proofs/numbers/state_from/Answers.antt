@@ -1,0 +1,12 @@
+-- `probe::numbers::state_from` meets its contract. Assumes nothing.
+use borrow.Author.Tests.{eq-eqb, ne_eqb}
+use Rattle.probe.proofs.numbers.state_from.Goals as goal
+
+pub returns-then-tag-eq0 : goal.returns-then-tag-eq0
+returns-then-tag-eq0 c = simp (eq-eqb _ _ c.if-tag-eq0.true)
+
+pub returns-then-tag-eq1 : goal.returns-then-tag-eq1
+returns-then-tag-eq1 c = simp (ne_eqb _ _ c.if-tag-eq0.false, eq-eqb _ _ c.if-tag-eq1.true)
+
+pub returns : goal.returns
+returns c = simp (ne_eqb _ _ c.if-tag-eq0.false, ne_eqb _ _ c.if-tag-eq1.false)
