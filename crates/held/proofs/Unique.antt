@@ -1,6 +1,6 @@
 -- Two results that meet a function's promise are equal, the encoder and the slice behind its reference with them, for every public
 -- function. Assumes nothing.
-use Rattle.std.specs.Prelude.{if◌then◌else◌, if◌then◌else◌}
+use Rattle.std.specs.Prelude.{if◌then◌else◌}
 use mathlib.Core.Path.{◌≡◌, refl, sym, ap, ◌∙◌}
 use mathlib.Core.List.{List}
 use Prim.Native.Nat.{ℕ}
