@@ -1,5 +1,5 @@
 //! What a line of the output is made of.
-ghost use Rattle.std.specs.Prelude.{◌+◌, ◌<◌, ◌≤◌, length};
+ghost use Rattle.std.specs.Prelude.{◌+◌, ◌<◌, ◌≤◌, IfOk, length};
 
 use crate::words;
 use std::io;
@@ -107,7 +107,7 @@ pub(crate) fn left(rt: &impl Print, s: &[u8]) -> io::Result<()> {
 // Number i, if a row of n ends with it; how many there are with the next.
 fn counted(rt: &impl Print, s: &[u64], i: usize, n: usize) -> io::Result<usize>
     requires { (i < length s.now) × (n ≤ i + 1) }
-    ensures { result ≤ i + 2 }
+    ensures { IfOk result (λ k. k ≤ i + 2) }
 {
     let here = s[i];
     if i + 1 < s.len() {
