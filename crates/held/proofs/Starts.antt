@@ -4,7 +4,7 @@ use mathlib.Core.Bool.{true}
 use mathlib.Core.List.{List, [], ◌∷◌}
 use Prim.Native.Nat.{ℕ}
 use lib.ListN.{length}
-use denote.Ref.{Bor}
+use denote.Ref.{MutBor}
 use denote.Enum.Declared.{tag_of}
 use types.Run.{OneOf, miss}
 use Rattle.cobs.specs.Answers.{done, dest_buf_too_small, bad_state}
@@ -31,7 +31,7 @@ module _ (room : ℕ) (s : Started) (p : s ≡ started room) (t : told_started s
 
 -- ---- After a refusal: the slice has length 0, and every call is a BadState that changes nothing
 
-module _ (x : Bor (List ℕ)) (empty : length x.now ≡ 0) where
+module _ (x : MutBor (List ℕ)) (empty : length x.now ≡ 0) where
   pub refused-bad : is_bad fresh (length x.now) ≡ true
   unfolding is_bad
   refused-bad = rw empty refl

@@ -5,7 +5,7 @@ use mathlib.Core.Path.{◌≡◌, refl, sym, ap, ◌∙◌}
 use mathlib.Core.List.{List}
 use Prim.Native.Nat.{ℕ}
 use lib.ListN.{length, get_or}
-use denote.Ref.{Bor}
+use denote.Ref.{MutBor}
 use Rattle.cobs.specs.Answers.{Told, done, is_done}
 use Rattle.cobs.proofs.Told.{one-result}
 use Rattle.enc.specs.Stream.{fresh, start_told, told, push_told, push_next, told_finished, finish_told, finish_dest}
@@ -35,10 +35,10 @@ one-opened : {t : Told} (a b : Opened) → told_opened a ≡ t → told_opened b
 one-opened a b p q = one-result told_opened opened-back opened-undone p q
 
 -- What `new` promises of its result r, on the slice x.
-abbrev Makes : Bor (List ℕ) → NewEncoder → Type 0
+abbrev Makes : MutBor (List ℕ) → NewEncoder → Type 0
 Makes x r = (told_opened r.answer ≡ start_told (length x.now)) × (r.encoder ≡ over x)
 
-pub unique-new : (x : Bor (List ℕ)) (r s : NewEncoder) → Makes x r → Makes x s → r ≡ s
+pub unique-new : (x : MutBor (List ℕ)) (r s : NewEncoder) → Makes x r → Makes x s → r ≡ s
 unique-new x r s p q i = record { encoder = (p.1 ∙ sym q.1) i; answer = one-opened r.answer s.answer p.0 q.0 i }
 
 -- ---- push and finalize

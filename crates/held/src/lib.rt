@@ -81,13 +81,18 @@ impl<'a> CobsEncoder<'a> {
 }
 
 /// Two pieces through one encoder, from the buffer lent to the buffer back.
+#[tactic(auto, unfolding(crate::specs::Held::two_told, crate::specs::Held::two_dest))]
 pub fn encode_two(dest: &mut [u8], first: &[u8], second: &[u8]) -> TwoPieces
     ensures { (told_two result ≡ two_told dest.old first.now second.now)
         × (dest.new ≡ two_dest dest.old first.now second.now) }
 {
-    let made = CobsEncoder::new(dest);
-    let opened = made.answer;
-    let mut encoder = made.encoder;
+    // As `new` begins, with the encoder in a local of its own.
+    let opening = start_on(&mut *dest);
+    let opened = opening.answer;
+    let mut encoder = CobsEncoder {
+        dest: dest,
+        encoder: opening.encoder,
+    };
     let first = encoder.push(first);
     let second = encoder.push(second);
     let finished = encoder.finalize();
