@@ -1,7 +1,6 @@
 -- `blocks::all16` meets its contract. Assumes nothing.
 use lib.Dec.{eqb}
 use lib.ListN.{length}
-use borrow.Author.Rules.{rules}
 use Rattle.blocks.specs.Blocks.{is_all}
 use Rattle.blocks.proofs.Blocks.{stands_yes, stands_no, sixteen-none, sixteen-some}
 use mathlib.Core.Path.{ap}

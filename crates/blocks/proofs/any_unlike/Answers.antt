@@ -1,11 +1,7 @@
 -- `blocks::any_unlike` meets its contract. Assumes nothing.
-use mathlib.Core.Path.{◌≡◌, refl}
-use Prim.Native.Nat.{◌-◌, ◌≤◌}
+use mathlib.Core.Path.{refl}
 use native.Mathlib.Omega.{arith}
 use lib.Dec.{eqb}
-use lib.ListN.{take}
-use borrow.Author.Rules.{rules}
-use Rattle.blocks.specs.Blocks.{each, flag}
 use Rattle.blocks.proofs.Blocks.{flag-turn, flag-end}
 use Rattle.blocks.proofs.any_unlike.Goals as goal
 

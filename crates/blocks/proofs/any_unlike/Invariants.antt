@@ -1,12 +1,9 @@
 -- `blocks::any_unlike` meets its contract. Assumes nothing.
-use mathlib.Core.Path.{◌≡◌, refl}
+use mathlib.Core.Path.{◌≡◌}
 use Prim.Native.Nat.{◌-◌, ◌≤◌}
-use native.Mathlib.Omega.{arith}
 use lib.Dec.{eqb}
 use lib.ListN.{take}
-use borrow.Author.Rules.{rules}
 use Rattle.blocks.specs.Blocks.{each, flag}
-use Rattle.blocks.proofs.Blocks.{flag-turn, flag-end}
 use Rattle.blocks.proofs.any_unlike.Given as goal
 
 abbrev pub invariant-loop-k : goal.invariant-loop-k

@@ -1,12 +1,8 @@
 -- `blocks::any_zero` meets its contract. Assumes nothing.
-use mathlib.Core.Path.{◌≡◌, refl}
+use mathlib.Core.Path.{refl}
 use mathlib.Core.Bool.{not}
-use Prim.Native.Nat.{◌-◌, ◌≤◌}
 use native.Mathlib.Omega.{arith}
 use lib.Dec.{eqb}
-use lib.ListN.{take}
-use borrow.Author.Rules.{rules}
-use Rattle.blocks.specs.Blocks.{each, flag}
 use Rattle.blocks.proofs.Blocks.{flag-turn, flag-end}
 use Rattle.blocks.proofs.any_zero.Goals as goal
 

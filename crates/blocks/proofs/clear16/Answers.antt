@@ -2,7 +2,6 @@
 use mathlib.Core.Bool.{not}
 use lib.Dec.{eqb}
 use lib.ListN.{length}
-use borrow.Author.Rules.{rules}
 use Rattle.blocks.specs.Blocks.{is_clear}
 use Rattle.blocks.proofs.Blocks.{stands_yes, stands_no, sixteen-none, sixteen-some}
 use mathlib.Core.Path.{ap}

@@ -2,7 +2,6 @@
 use mathlib.Core.Path.{sym, ◌∙◌}
 use Prim.Native.Nat.{◌+◌, ◌≤◌}
 use lib.ListN.{length, drop}
-use borrow.Author.Rules.{rules}
 use Rattle.blocks.proofs.Blocks.{stands_yes, stands_no, copied-fits, copied-dest, copied-src, paste-block}
 use mathlib.Core.Path.{ap}
 use mathlib.Core.Bool.{not}

@@ -1,8 +1,6 @@
 -- `blocks::fill16` meets its contract. Assumes nothing.
 use mathlib.Core.Path.{sym, ◌∙◌}
-use Prim.Native.Nat.{◌+◌, ◌≤◌}
 use lib.ListN.{length}
-use borrow.Author.Rules.{rules}
 use Rattle.blocks.proofs.Blocks.{stands_yes, stands_no, filled-fits, filled-dest}
 use mathlib.Core.Path.{ap}
 use mathlib.Core.Bool.{not}

@@ -1,11 +1,8 @@
 -- `blocks::mask` meets its contract. Assumes nothing.
-use mathlib.Core.Path.{◌≡◌, refl, ap, ◌∙◌}
-use mathlib.Core.Logic.{⊎_elim}
-use Prim.Native.Nat.{ℕ, ◌-◌, ◌≤◌}
-use native.Mathlib.Omega.{arith}
-use lib.ListN.{length, length-set}
+use mathlib.Core.Path.{◌≡◌}
+use Prim.Native.Nat.{◌-◌, ◌≤◌}
+use lib.ListN.{length}
 use Rattle.blocks.specs.Blocks.{masked_front}
-use Rattle.blocks.proofs.Front.{masked-none, masked-turn, masked-end}
 use Rattle.blocks.proofs.mask.Given as goal
 
 abbrev pub invariant-loop-i : goal.invariant-loop-i

@@ -1,8 +1,8 @@
 -- `blocks::read16` meets its contract. Assumes nothing.
 use mathlib.Core.Path.{◌≡◌, refl, sym, ap, ◌∙◌}
-use Prim.Native.Nat.{ℕ, ◌-◌, ◌≤◌}
+use Prim.Native.Nat.{ℕ}
 use native.Mathlib.Omega.{arith}
-use lib.ListN.{length, take, drop, length-set}
+use lib.ListN.{take, drop, length-set}
 use lib.Seq.{take-length}
 use Rattle.blocks.proofs.Blocks.{read-turn}
 use Rattle.blocks.proofs.read16.Goals as goal

@@ -4,7 +4,6 @@ use Prim.Native.Nat.{ℕ, ◌+◌, ◌≤◌}
 use mathlib.Core.List.{List}
 use lib.ListN.{length, drop, take}
 use lib.Seq.{paste}
-use borrow.Author.Rules.{rules}
 use Rattle.blocks.specs.Blocks.{copied}
 use Rattle.blocks.proofs.Blocks.{stands_yes, stands_no, copied-fits, copied-dest, copied-src, paste-block, taken-dest, taken-src, taken-zeros, taken_clear, taken-mixed}
 use mathlib.Core.Path.{ap}

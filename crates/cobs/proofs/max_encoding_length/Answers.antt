@@ -1,6 +1,5 @@
 -- `cobs::max_encoding_length` meets its contract: what `max_encoding_overhead` answers says which way the number went. Assumes nothing.
 use mathlib.Core.Path.{sym, ap, ◌∙◌}
-use borrow.Author.Rules.{rules}
 use native.Mathlib.Omega.{arith}
 use Rattle.cobs.specs.Lengths.{told}
 use Rattle.cobs.proofs.Lengths.{overhead-back, length-long, length-short}

@@ -1,5 +1,4 @@
 -- `cobs::max_encoding_overhead` meets its contract. Assumes nothing.
-use borrow.Author.Rules.{rules}
 use native.Mathlib.Omega.{arith}
 use Rattle.cobs.proofs.Lengths.{overhead-long, overhead-short}
 use Rattle.cobs.proofs.Encoding.{overhead-max}

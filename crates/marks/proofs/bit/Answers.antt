@@ -1,5 +1,4 @@
 -- `marks::bit` meets its contract. Assumes nothing.
-use borrow.Author.Rules.{rules}
 use Rattle.marks.proofs.Bits.{shift_mask}
 use Rattle.marks.proofs.bit.Goals as goal
 

@@ -3,7 +3,6 @@ use mathlib.Core.Path.{◌≡◌, sym, ◌∙◌}
 use mathlib.Core.List.{List}
 use Prim.Native.Nat.{ℕ, ◌+◌}
 use native.Mathlib.Omega.{arith}
-use borrow.Author.Rules.{rules}
 use Rattle.marks.specs.Marks.{marked_below}
 use Rattle.marks.proofs.Below.{below_le, below-past}
 use Rattle.marks.proofs.Words.{words_and_rest}

@@ -1,9 +1,8 @@
 -- `marks::count_words` meets its contract: the sum is the count in the words passed. Assumes nothing.
 use mathlib.Core.Path.{◌≡◌, refl}
 use mathlib.Core.List.{List}
-use Prim.Native.Nat.{ℕ, ◌+◌, ◌-◌, ◌*◌, ◌≤◌}
+use Prim.Native.Nat.{ℕ, ◌+◌, ◌*◌}
 use native.Mathlib.Omega.{arith}
-use borrow.Author.Rules.{rules}
 use Rattle.marks.specs.Marks.{count_below, marked_below}
 use Rattle.marks.proofs.Below.{below_le}
 use Rattle.marks.proofs.Words.{one_word_more}

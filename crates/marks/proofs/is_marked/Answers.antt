@@ -1,5 +1,4 @@
 -- `marks::is_marked` meets its contract. Assumes nothing.
-use borrow.Author.Rules.{rules}
 use Rattle.marks.specs.Marks.{marked}
 use Rattle.marks.proofs.is_marked.Goals as goal
 

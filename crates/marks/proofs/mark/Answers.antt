@@ -1,5 +1,4 @@
 -- `marks::mark` meets its contract. Assumes nothing.
-use borrow.Author.Rules.{rules}
 use Rattle.marks.specs.Marks.{set_mark}
 use Rattle.marks.proofs.mark.Goals as goal
 

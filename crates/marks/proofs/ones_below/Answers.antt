@@ -5,7 +5,6 @@ use native.Mathlib.Omega.{arith}
 use lib.Pow.{pow_pos}
 use lib.Bits.{bit_and}
 use lib.Count.{ones}
-use borrow.Author.Rules.{rules}
 use Rattle.marks.specs.Marks.{bit_at, count_below}
 use Rattle.marks.proofs.Counts.{count-both}
 use Rattle.marks.proofs.Bits.{one_shifted, ones-masked}

@@ -1,7 +1,6 @@
 -- `marks::set_word` meets its contract. Assumes nothing.
 use mathlib.Core.Path.{sym}
 use lib.Seq.{set_out}
-use borrow.Author.Rules.{rules}
 use Rattle.marks.proofs.set_word.Goals as goal
 
 pub returns-else-k-words : goal.returns-else-k-words

@@ -1,5 +1,4 @@
 -- `marks::with_bit` meets its contract. Assumes nothing.
-use borrow.Author.Rules.{rules}
 use Rattle.marks.proofs.Bits.{one_shifted, or_bit}
 use Rattle.marks.proofs.with_bit.Goals as goal
 
