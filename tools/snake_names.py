@@ -66,14 +66,14 @@ def camel(text, turned):
 
 
 def dashes(text, names, turned):
-    """The names of names.tsv, but for steps and fields after a dot, unless a module's name stands before it."""
+    """The names of names.tsv, but for steps and fields after a dot, unless a module stands before the dot."""
     modules = set(re.findall(r"(?m)^use \S+ as (\S+)$", text))
 
     def turn(m):
         if m[0] not in names:
             return m[0]
         before = re.search(r"([\w'-]+)\.\Z", text[max(0, m.start() - 60) : m.start()])
-        if before and before[1] not in modules:
+        if before and before[1] not in modules and not before[1][0].isupper():
             return m[0]
         turned[m[0]] = names[m[0]]
         return names[m[0]]

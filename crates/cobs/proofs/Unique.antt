@@ -16,8 +16,8 @@ unfolding back
 back-told (Bytes n) = refl
 back-told TooLong = refl
 
-pub unique-max-encoding-overhead : (n : ℕ) (r s : Length) → told r ≡ overhead_told n → told s ≡ overhead_told n → r ≡ s
-unique-max-encoding-overhead n r s p q = one-result told back back-told p q
+pub unique-max_encoding_overhead : (n : ℕ) (r s : Length) → told r ≡ overhead_told n → told s ≡ overhead_told n → r ≡ s
+unique-max_encoding_overhead n r s p q = one-result told back back-told p q
 
-pub unique-max-encoding-length : (n : ℕ) (r s : Length) → told r ≡ length_told n → told s ≡ length_told n → r ≡ s
-unique-max-encoding-length n r s p q = one-result told back back-told p q
+pub unique-max_encoding_length : (n : ℕ) (r s : Length) → told r ≡ length_told n → told s ≡ length_told n → r ≡ s
+unique-max_encoding_length n r s p q = one-result told back back-told p q

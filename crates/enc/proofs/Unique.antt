@@ -106,17 +106,17 @@ module _ (src d : List ℕ) (r s : Encoded) (d' d'' : List ℕ) where
       → d' ≡ encode_dest plain src d → d'' ≡ encode_dest plain src d → (r ≡ s) × (d' ≡ d'')
   unique-encode = unique-form r s d' d''
 
-  pub unique-try-encode : told r ≡ encode_told plain src (length d) → told s ≡ encode_told plain src (length d)
+  pub unique-try_encode : told r ≡ encode_told plain src (length d) → told s ≡ encode_told plain src (length d)
       → d' ≡ encode_dest plain src d → d'' ≡ encode_dest plain src d → (r ≡ s) × (d' ≡ d'')
-  unique-try-encode = unique-form r s d' d''
+  unique-try_encode = unique-form r s d' d''
 
-  pub unique-encode-including-sentinels : told r ≡ encode_told zeros_around src (length d) → told s ≡ encode_told zeros_around src (length d)
+  pub unique-encode_including_sentinels : told r ≡ encode_told zeros_around src (length d) → told s ≡ encode_told zeros_around src (length d)
       → d' ≡ encode_dest zeros_around src d → d'' ≡ encode_dest zeros_around src d → (r ≡ s) × (d' ≡ d'')
-  unique-encode-including-sentinels = unique-form r s d' d''
+  unique-encode_including_sentinels = unique-form r s d' d''
 
-  pub unique-try-encode-including-sentinels : told r ≡ encode_told zeros_around src (length d) → told s ≡ encode_told zeros_around src (length d)
+  pub unique-try_encode_including_sentinels : told r ≡ encode_told zeros_around src (length d) → told s ≡ encode_told zeros_around src (length d)
       → d' ≡ encode_dest zeros_around src d → d'' ≡ encode_dest zeros_around src d → (r ≡ s) × (d' ≡ d'')
-  unique-try-encode-including-sentinels = unique-form r s d' d''
+  unique-try_encode_including_sentinels = unique-form r s d' d''
 
 with-back : Told → EncodedWith
 with-back t = if is_done t then encoded_with.Length t.first else if eqb t.number 5 then encoded_with.TooLong else encoded_with.DestBufTooSmall
@@ -127,7 +127,7 @@ with-told (encoded_with.Length n) = refl
 with-told encoded_with.TooLong = refl
 with-told encoded_with.DestBufTooSmall = refl
 
-pub unique-encode-with-sentinel : (src d : List ℕ) (sentinel : ℕ) (r s : EncodedWith) (d' d'' : List ℕ)
+pub unique-encode_with_sentinel : (src d : List ℕ) (sentinel : ℕ) (r s : EncodedWith) (d' d'' : List ℕ)
     → told_with r ≡ encode_told (chosen sentinel) src (length d) → told_with s ≡ encode_told (chosen sentinel) src (length d)
     → d' ≡ encode_dest (chosen sentinel) src d → d'' ≡ encode_dest (chosen sentinel) src d → (r ≡ s) × (d' ≡ d'')
-unique-encode-with-sentinel src d sentinel r s d' d'' p q a b = (one-result told_with with-back with-told p q, a ∙ sym b)
+unique-encode_with_sentinel src d sentinel r s d' d'' p q a b = (one-result told_with with-back with-told p q, a ∙ sym b)

@@ -84,6 +84,6 @@ module _ (d a b : List ℕ) (r s : TwoPieces) where
     finished = (unique-Encoder-finalize (next₂ d a b) (dest₂ d a b) r.finished s.finished _ _ (ap (answer 3) p) (ap (answer 3) q) refl refl).0 i;
   }
 
-  pub unique-encode-two : (k l : List ℕ) → (told_two r ≡ two_told d a b) × (k ≡ two_dest d a b) → (told_two s ≡ two_told d a b) × (l ≡ two_dest d a b)
+  pub unique-encode_two : (k l : List ℕ) → (told_two r ≡ two_told d a b) × (k ≡ two_dest d a b) → (told_two s ≡ two_told d a b) × (l ≡ two_dest d a b)
       → (r ≡ s) × (k ≡ l)
-  unique-encode-two k l p q = (one-two p.0 q.0, p.1 ∙ sym q.1)
+  unique-encode_two k l p q = (one-two p.0 q.0, p.1 ∙ sym q.1)

@@ -105,7 +105,7 @@ pub fn encode_two(dest: &mut [u8], first: &[u8], second: &[u8]) -> TwoPieces
 }
 
 // The encoder to begin with. Where none can start it is a fresh one all the same, which on a buffer of length 0 is a BadState.
-// The slice is only read; it is taken as `new` has it, so that one way of lending it on serves every call.
+// The slice is only read; it is taken as `new` has it.
 fn start_on(dest: &mut [u8]) -> Opening
     ensures answer { told_opened result.answer ≡ start_told (length dest.old) }
     ensures encoder { result.encoder ≡ fresh }

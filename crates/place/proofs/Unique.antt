@@ -58,23 +58,23 @@ with-undone sentinel.TargetBufTooSmall = refl
 abbrev Reports : (buf : List ℕ) → Report → List ℕ → Type 0
 Reports buf = Meets report_told (in_place_told buf) (in_place_dest buf)
 
-pub unique-decode-in-place-report : (buf : List ℕ) (r s : Report) (k l : List ℕ) → Reports buf r k → Reports buf s l → (r ≡ s) × (k ≡ l)
-unique-decode-in-place-report buf r s k l p q = one report_told report-back report-undone (in_place_told buf) (in_place_dest buf) r s k l p q
+pub unique-decode_in_place_report : (buf : List ℕ) (r s : Report) (k l : List ℕ) → Reports buf r k → Reports buf s l → (r ≡ s) × (k ≡ l)
+unique-decode_in_place_report buf r s k l p q = one report_told report-back report-undone (in_place_told buf) (in_place_dest buf) r s k l p q
 
 abbrev Places : (buf : List ℕ) → InPlace → List ℕ → Type 0
 Places buf = Meets place_told (size_alone (in_place_told buf)) (in_place_dest buf)
 
-pub unique-decode-in-place : (buf : List ℕ) (r s : InPlace) (k l : List ℕ) → Places buf r k → Places buf s l → (r ≡ s) × (k ≡ l)
-unique-decode-in-place buf r s k l p q = one place_told place-back place-undone (size_alone (in_place_told buf)) (in_place_dest buf) r s k l p q
+pub unique-decode_in_place : (buf : List ℕ) (r s : InPlace) (k l : List ℕ) → Places buf r k → Places buf s l → (r ≡ s) × (k ≡ l)
+unique-decode_in_place buf r s k l p q = one place_told place-back place-undone (size_alone (in_place_told buf)) (in_place_dest buf) r s k l p q
 
-pub unique-decode-in-place-with-sentinel : (sentinel : ℕ) (buf : List ℕ) (r s : InPlace) (k l : List ℕ)
+pub unique-decode_in_place_with_sentinel : (sentinel : ℕ) (buf : List ℕ) (r s : InPlace) (k l : List ℕ)
     → Places (masked sentinel buf) r k → Places (masked sentinel buf) s l → (r ≡ s) × (k ≡ l)
-unique-decode-in-place-with-sentinel sentinel buf r s k l p q = unique-decode-in-place (masked sentinel buf) r s k l p q
+unique-decode_in_place_with_sentinel sentinel buf r s k l p q = unique-decode_in_place (masked sentinel buf) r s k l p q
 
 abbrev DecodesWith : (sentinel : ℕ) (src dest : List ℕ) → DecodedWith → List ℕ → Type 0
 DecodesWith sentinel src dest = Meets with_told (with_sentinel_told sentinel src (length dest)) (with_sentinel_dest sentinel src dest)
 
-pub unique-decode-with-sentinel : (sentinel : ℕ) (src dest : List ℕ) (r s : DecodedWith) (k l : List ℕ)
+pub unique-decode_with_sentinel : (sentinel : ℕ) (src dest : List ℕ) (r s : DecodedWith) (k l : List ℕ)
     → DecodesWith sentinel src dest r k → DecodesWith sentinel src dest s l → (r ≡ s) × (k ≡ l)
-unique-decode-with-sentinel sentinel src dest r s k l p q =
+unique-decode_with_sentinel sentinel src dest r s k l p q =
     one with_told with-back with-undone (with_sentinel_told sentinel src (length dest)) (with_sentinel_dest sentinel src dest) r s k l p q

@@ -50,13 +50,13 @@ unique-write item r s a b c d =
 pub unique-read : (s : List ℕ) (at : ℕ) (a b : ReadAnswer) → a ≡ read_of 0 (drop at s) → b ≡ read_of 0 (drop at s) → a ≡ b
 unique-read s at a b p q = p ∙ sym q
 
-pub unique-class-of : (theirs ours : ℕ) (a b : Class) → told_class a ≡ told_class (class_of theirs ours) → told_class b ≡ told_class (class_of theirs ours) → a ≡ b
-unique-class-of theirs ours a b p q = class-told a b (p ∙ sym q)
+pub unique-class_of : (theirs ours : ℕ) (a b : Class) → told_class a ≡ told_class (class_of theirs ours) → told_class b ≡ told_class (class_of theirs ours) → a ≡ b
+unique-class_of theirs ours a b p q = class-told a b (p ∙ sym q)
 
-pub unique-is-bad-length : (n : ℕ) (a b : Bool) → a ≡ is_bad_length 16 240 n → b ≡ is_bad_length 16 240 n → a ≡ b
-unique-is-bad-length n a b p q = p ∙ sym q
+pub unique-is_bad_length : (n : ℕ) (a b : Bool) → a ≡ is_bad_length 16 240 n → b ≡ is_bad_length 16 240 n → a ≡ b
+unique-is_bad_length n a b p q = p ∙ sym q
 
-pub unique-write-frame : (m d : List ℕ) (a b : FrameWritten) (u v : List ℕ)
+pub unique-write_frame : (m d : List ℕ) (a b : FrameWritten) (u v : List ℕ)
     → told_frame a ≡ frame_told m (length d) → u ≡ frame_dest m d
     → told_frame b ≡ frame_told m (length d) → v ≡ frame_dest m d → (a ≡ b) × (u ≡ v)
-unique-write-frame m d a b u v p s q t = (one-result told_frame back_frame frame_back p q, s ∙ sym t)
+unique-write_frame m d a b u v p s q t = (one-result told_frame back_frame frame_back p q, s ∙ sym t)
