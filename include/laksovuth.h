@@ -1,4 +1,4 @@
-/* Laksovuth for C callers: the proved calls of crate capi, in the archive that `rt lib` makes in crates/capi_c (x86-64 only today).
+/* Laksovuth for C callers: the proved calls of crate capi, in the archive that `./archive capi` makes (x86-64 only today).
 
    Each call answers a number of enum laksovuth_answer: 0 for done, 1 to 13 for document 01's refusals, from 14 on how a piece or a
    batch stands. An out-parameter gets the value named for it, and 0 where the answer has none. What each call does is stated, and

@@ -1,4 +1,4 @@
-//! Links the archive that `rt lib` makes in crates/capi_c: from $LAKSOVUTH_ARCHIVE, a folder, or from that crate's out/.
+//! Links the archive that `./archive capi` makes: from $LAKSOVUTH_ARCHIVE, a folder, or from target/staticlib of this repository.
 use std::env;
 use std::path::PathBuf;
 
@@ -7,9 +7,9 @@ fn main() {
     let here = PathBuf::from(env::var("CARGO_MANIFEST_DIR").unwrap());
     let folder = match env::var("LAKSOVUTH_ARCHIVE") {
         Ok(folder) => PathBuf::from(folder),
-        Err(_) => here.join("../crates/capi_c/out"),
+        Err(_) => here.join("../target/staticlib"),
     };
-    let archive = folder.join("libcapi_c.a");
+    let archive = folder.join("libcapi.a");
     println!("cargo:rerun-if-changed={}", archive.display());
     assert!(
         env::var("CARGO_CFG_TARGET_ARCH").as_deref() == Ok("x86_64"),
@@ -17,9 +17,9 @@ fn main() {
     );
     assert!(
         archive.exists(),
-        "no {}: run `rt lib` in crates/capi_c first",
+        "no {}: run `./archive capi` in the repository first",
         archive.display()
     );
     println!("cargo:rustc-link-search=native={}", folder.display());
-    println!("cargo:rustc-link-lib=static=capi_c");
+    println!("cargo:rustc-link-lib=static=capi");
 }

@@ -1,7 +1,7 @@
 //! COBS frames, particle records and a batch receiver whose every call is proved, for Rust callers.
 //!
-//! Safe functions over the archive of crate `capi_c`, the calls of `capi`; what each does is stated in `crates/capi` and proved for
-//! every input. No heap, no `std`. The archive is built for x86-64 only today.
+//! Safe functions over the archive of crate `capi`; what each does is stated in `crates/capi` and proved for every input. No heap, no
+//! `std`. The archive is built for x86-64 only today.
 //!
 //! A board sends a batch, a wire cuts it, and the workstation weighs each particle once:
 //!
