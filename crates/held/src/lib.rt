@@ -81,7 +81,6 @@ impl<'a> CobsEncoder<'a> {
 }
 
 /// Two pieces through one encoder, from the buffer lent to the buffer back.
-#[tactic(auto, unfolding(crate::specs::Held::two_told, crate::specs::Held::two_dest))]
 pub fn encode_two(dest: &mut [u8], first: &[u8], second: &[u8]) -> TwoPieces
     ensures { (told_two result ≡ two_told dest.old first.now second.now)
         × (dest.new ≡ two_dest dest.old first.now second.now) }
