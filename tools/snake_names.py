@@ -5,7 +5,7 @@ usage: python3 tools/snake_names.py        at the top of the repository, after t
 
 Words are in snake case, types and facts keep their capitals, and a dash joins two names: `encode-length` is about `encode` and `length`,
 while a plain word follows with `_`, as in `encode_nonempty`. names.tsv beside this script has the laws whose dash became `_`. Five laws
-whose new name would be that of a definition get another name first; five whose new name is taken keep their dash.
+whose new name would be that of a definition get another name first; a few whose new name is taken keep their dash.
 Functions of src/, exported C names and strings have no such names and stay. It prints each name that it turned, and names that fell together.
 """
 

@@ -1,4 +1,4 @@
--- The workstation's calls over the C convention: `receive` and `stands` on the states that numbers name. Numbers that name none
+-- The workstation's calls as C has them: `receive` and `stands` on the states that numbers name. Numbers that name none
 -- are BadState, and then nothing changes. Assumes nothing.
 use Rattle.std.specs.Prelude.{true, List, ℕ, eqb, length, if◌then◌else◌}
 use Rattle.cobs.specs.Answers.{Told, done, bad_state}

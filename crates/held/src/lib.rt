@@ -28,7 +28,7 @@ pub struct NewEncoder<'a> {
     pub answer: Opened,
 }
 
-/// What the four calls of `encode_two` answered.
+/// What the four steps of `encode_two` answered: the start, two pushes, and the end.
 #[derive(Clone, Copy)]
 pub struct TwoPieces {
     pub opened: Opened,
