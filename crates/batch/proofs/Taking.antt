@@ -1,5 +1,6 @@
 -- The records of a frame from some place on, one law for each way through `take`. Assumes nothing.
 use mathlib.Core.Path.{◌≡◌, refl, sym, ap, ap₂, ◌∙◌, subst}
+use mathlib.Core.Bool.{false}
 use mathlib.Core.List.{List, [], ◌∷◌}
 use Prim.Native.Nat.{ℕ, suc, ◌+◌, ◌-◌, ◌/◌, ◌%◌, ◌<◌}
 use native.Mathlib.Omega.{arith}
@@ -8,6 +9,7 @@ use lib.Seq.{drop-drop}
 use types.Run.{OneOf, miss}
 use denote.Enum.Declared.{tag_of}
 use Rattle.record.specs.Record.{read_of}
+use Rattle.batch.specs.State.{is_bad}
 use Rattle.batch.specs.Verdict.{on_read, verdict, after, stored}
 use Rattle.batch.specs.Frame.{Outcome, refused, taken, on_verdict, take_all, next_after, table_after}
 use Rattle.batch.specs.Helpers.{kept_for, rest, verdict_of}
@@ -19,6 +21,7 @@ use Rattle.batch.specs.declared.judge.Verdict.{Verdict}
 use Rattle.batch.specs.declared.judge.Verdict.TheVariants.{Take, Refuse}
 use Rattle.batch.specs.contracts.judge.Verdict.{the_type}
 use Rattle.batch.proofs.Effects.{undone}
+use Rattle.batch.proofs.Good.{Good, good, good-after}
 
 -- ---- no record is left
 
@@ -108,3 +111,26 @@ says-rest o p r q t t₁ v n u eo m z =
     let x = was_taken p v z.0 m in
     let e : o ≡ taken x.0 x.1 = eo ∙ x.2 in
     (z.0 ∙ ap verdict_of (sym eo), (z.1.0 ∙ ap (next_after q) x.2 ∙ sym (ap (next_after r) e), z.1.1 ∙ ap (table_after t₁) x.2 ∙ sym (ap (table_after t) e)))
+
+-- ---- a record stored, and the rest
+
+-- The record at `at` is taken, from a good state.
+module _ (r : Receiver) (t f : List ℕ) (at : ℕ) (h : at < length f) (m : at % 16 ≡ 0) (l : length f % 16 ≡ 0)
+    (v : Verdict) (ev : v ≡ on_read (at / 16) r (read_of 0 (drop at f))) (e : Effect) (q : v ≡ Take e) where
+  pub stored-good : (is_bad r (length t) ≡ false) × (length r.marks ≡ 64) → Good (after e r) (length t)
+  stored-good g =
+      good-after _ r t (drop at f) e (length t) (good r (length t) g.1 g.0) (allows f at r t h m l v ev e q)
+
+  -- The rest, from the state and the table as the code has them.
+  module _ (x : Receiver) (w : List ℕ) (ex : x ≡ after e r) (ew : w ≡ stored e t (drop at f))
+      (v' : Verdict) (n : Receiver) (u : List ℕ) (z : Says (rest f (at + 16) x w) x w v' n u) where
+    says : Says (rest f (at + 16) (after e r) (stored e t (drop at f))) (after e r) (stored e t (drop at f)) v' n u
+    says = says-from f (at + 16) x (after e r) w (stored e t (drop at f)) v' n u ex ew z
+
+    -- it is refused: what the record was stored over is put back
+    pub refused-back : OneOf (1 ∷ []) (tag_of the_type v') → (b k : List ℕ) → b ≡ kept_for e t → k ≡ stored e u b → Says (rest f at r t) r t v' r k
+    refused-back o b k eb ek = says-undone _ _ _ _ _ _ _ _ _ _ (goes f at r t h m l v ev e q) says.0 o says.1.1 eb ek
+
+    -- or taken
+    pub taken-on : OneOf (0 ∷ []) (tag_of the_type v') → Says (rest f at r t) r t v' n u
+    taken-on o = says-rest _ _ _ _ _ _ _ _ _ (goes f at r t h m l v ev e q) o says

@@ -30,13 +30,20 @@ take-taken-requires c =
 pub returns-in-Refuse : goal.returns-in-Refuse
 returns-in-Refuse c =
     let a = c.args in
+    let q = c.is_bad in
+    let l = c.is_bad_length in
     let k = c.take-taken in
-    let both = refused-frame a.receiver a.table.now a.frame.now c.is_bad.result c.is_bad.ensures c.if-is_bad.false c.is_bad_length.result c.is_bad_length.ensures c.if-is_bad_length.false k.result.verdict k.result.next k.new.table (k.ensures.answer, (k.ensures.state, k.ensures.memory)) c.in-Refuse.answer c.in-Refuse.is in
+    let both = refused-frame a.receiver a.table.now a.frame.now q.result q.ensures c.if-is_bad.false l.result l.ensures c.if-is_bad_length.false
+    k.result.verdict k.result.next k.new.table (k.ensures.answer, (k.ensures.state, k.ensures.memory)) c.in-Refuse.answer c.in-Refuse.is in
     record { answer = both.0; state = both.1.0; memory = both.1.1 }
 
 pub returns : goal.returns
 returns c =
     let a = c.args in
+    let q = c.is_bad in
+    let l = c.is_bad_length in
     let k = c.take-taken in
-    let both = taken-frame a.receiver a.table.now a.frame.now c.is_bad.result c.is_bad.ensures c.if-is_bad.false c.is_bad_length.result c.is_bad_length.ensures c.if-is_bad_length.false k.result.verdict k.result.next k.new.table (k.ensures.answer, (k.ensures.state, k.ensures.memory)) c.in_default.in_default-own.keys2 c.as_answer-answer.result (c.as_answer-answer.ensures ∙ c.standing.ensures) in
+    let both = taken-frame a.receiver a.table.now a.frame.now q.result q.ensures c.if-is_bad.false l.result l.ensures c.if-is_bad_length.false
+    k.result.verdict k.result.next k.new.table (k.ensures.answer, (k.ensures.state, k.ensures.memory))
+    c.in_default.in_default-own.keys2 c.as_answer-answer.result (c.as_answer-answer.ensures ∙ c.standing.ensures) in
     record { answer = both.0; state = both.1.0; memory = both.1.1 }

@@ -15,10 +15,16 @@ returns-in_default c =
 
 pub returns-in_default-last : goal.returns-in_default-last
 returns-in_default-last c =
-    let both = decode-other _ _ c.if-src-eq0.false _ c.new.ensures c.push-pushed.result c.push-pushed.ensures.answer _ c.push-pushed.ensures.memory c.in-More.is c.push-pushed.auto.dest c.feed-closed.result c.feed-closed.ensures.answer _ c.feed-closed.ensures.memory c.in_default-last.not-Frame _ c.stopped-in_default-last.ensures in
+    let p = c.push-pushed in
+    let z = c.feed-closed in
+    let both = decode-other _ _ c.if-src-eq0.false _ c.new.ensures p.result p.ensures.answer _ p.ensures.memory c.in-More.is p.auto.dest
+    z.result z.ensures.answer _ z.ensures.memory c.in_default-last.not-Frame _ c.stopped-in_default-last.ensures in
     record { answer = both.0; memory = both.1 }
 
 pub returns : goal.returns
 returns c =
-    let both = decode-frame _ _ c.if-src-eq0.false _ c.new.ensures c.push-pushed.result c.push-pushed.ensures.answer _ c.push-pushed.ensures.memory c.in-More.is c.push-pushed.auto.dest c.feed-closed.result c.feed-closed.ensures.answer _ c.feed-closed.ensures.memory _ _ c.in-Frame.is in
+    let p = c.push-pushed in
+    let z = c.feed-closed in
+    let both = decode-frame _ _ c.if-src-eq0.false _ c.new.ensures p.result p.ensures.answer _ p.ensures.memory c.in-More.is p.auto.dest
+    z.result z.ensures.answer _ z.ensures.memory _ _ c.in-Frame.is in
     record { answer = both.0; memory = both.1 }

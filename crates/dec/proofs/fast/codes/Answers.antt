@@ -7,4 +7,11 @@ use Rattle.dec.proofs.fast.codes.Goals as goal
 
 pub returns-then-all16 : goal.returns-then-all16
 returns-then-all16 c =
-    record { group = record { code = omega arith; few = omega arith }; decoded = ones-patched _ _ _ _ _ _ c.requires.i_in_bounds.0 c.requires.i_in_bounds.1 c.if-left-eq0.true c.requires.le_left (all-says 1 c.args.piece.now c.args.i (sym c.all16.ensures ∙ c.if-all16.true)).1 _ (c.fill16.ensures ∙ filled-fits c.args.dest.now c.args.place 0 c.requires.i_in_bounds.1) }
+    let a = c.args in
+    let q = c.requires in
+    let ones = (all-says 1 a.piece.now a.i (sym c.all16.ensures ∙ c.if-all16.true)).1 in
+    let written = c.fill16.ensures ∙ filled-fits a.dest.now a.place 0 q.i_in_bounds.1 in
+    record {
+      group = record { code = omega arith; few = omega arith };
+      decoded = ones-patched _ _ _ _ _ _ q.i_in_bounds.0 q.i_in_bounds.1 c.if-left-eq0.true q.le_left ones _ written;
+    }

@@ -34,7 +34,10 @@ returns-in_default c =
 
 pub loop-i-preserved : goal.loop-i-preserved
 loop-i-preserved c =
-    (omega arith, streamed_more _ _ _ _ _ c.loop-i.invariant.1 (inside _ _ _ c.loop-i-test.true) _ (is_byte _ _ _ c.loop-i-test.true) _ c.feed-fed.ensures.answer _ c.feed-fed.ensures.memory c.feed-fed.auto.dest _ (ap (λ (a : PushAnswer). outcome (record { next = c.feed-fed.result.next; answer = a })) c.in-More.is))
+    let w = c.loop-i-test.true in
+    let z = c.feed-fed in
+    let more = ap (λ (a : PushAnswer). outcome (record { next = z.result.next; answer = a })) c.in-More.is in
+    (omega arith, streamed_more _ _ _ _ _ c.loop-i.invariant.1 (inside _ _ _ w) _ (is_byte _ _ _ w) _ z.ensures.answer _ z.ensures.memory z.auto.dest _ more)
 
 pub shape_of-dest : goal.shape_of-dest
 shape_of-dest c = c.loop-i.invariant.1.long
