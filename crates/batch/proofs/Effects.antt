@@ -1,15 +1,14 @@
 -- What an effect makes of the state and the table, one law for each way through the code; and a store undone. Assumes nothing.
+use Rattle.std.specs.Prelude.{Some, None}
 use mathlib.Core.Path.{◌≡◌, refl, sym, ap, ap₂, ◌∙◌}
 use mathlib.Core.Bool.{Bool, true, false}
-use mathlib.Core.List.{List, [], ◌∷◌, ◌++◌, append-nil}
+use mathlib.Core.List.{List, ◌++◌, append-nil}
 use Prim.Native.Nat.{ℕ, ◌+◌, ◌≤◌, ◌<◌, min}
 use native.Mathlib.Omega.{arith}
 use lib.ListN.{length, take, drop, replicate, length-drop, take-append-drop}
 use lib.Seq.{paste, take-take, take-add, length-take-le, length-paste, take-paste, drop-paste, take_at}
 use mir.Syntax.{w32}
 use mir.Val.{Fits}
-use types.Run.{OneOf, miss}
-use denote.Enum.Declared.{tag_of}
 use borrow.Author.Tests.{le-leb, lt-leb, leb-true, leb-false}
 use Rattle.blocks.specs.Blocks.{stands, copied}
 use Rattle.blocks.proofs.Blocks.{copied-fits, copied-dest, copied-src}
@@ -18,15 +17,14 @@ use Rattle.batch.specs.State.{slot_at, room_for, opened}
 use Rattle.batch.specs.Verdict.{after, stored}
 use Rattle.batch.specs.Helpers.{kept_for}
 use Rattle.batch.specs.declared.Receiver.{Receiver}
-use Rattle.batch.specs.declared.Close.TheVariants.{Not, Taken}
+use Rattle.batch.specs.declared.Close as held
 use Rattle.batch.specs.declared.judge.Effect.{Effect}
 use Rattle.batch.specs.declared.judge.Effect.TheVariants.{Repeat, Store, Close}
-use Rattle.batch.specs.contracts.judge.Effect.{the_type}
 
 -- ---- the state
 
 pub open_is : (batch n room s : ℕ) (m : List ℕ) → room ≡ room_for n → s ≡ min room 4096 → m ≡ no_marks
-    → ◌≡◌ {A = Receiver} (record { marks = m; total = 0; close = Not; slots = s; batch = batch }) (opened batch n)
+    → ◌≡◌ {A = Receiver} (record { marks = m; total = 0; close = None; slots = s; batch = batch }) (opened batch n)
 unfolding opened
 open_is batch n room s m er es em = simp (es, er, em)
 
@@ -40,10 +38,10 @@ module _ (r : Receiver) (e : Effect) where
   unfolding after
   after_store i w h m em = simp (h, em)
 
-  pub after-close : (n t : ℕ) → e ≡ Close n t
-      → ◌≡◌ {A = Receiver} (record { marks = r.marks; total = r.total; close = Taken n t; slots = r.slots; batch = r.batch }) (after e r)
+  pub after-close : (c : held.Close) → e ≡ Close c
+      → ◌≡◌ {A = Receiver} (record { marks = r.marks; total = r.total; close = Some c; slots = r.slots; batch = r.batch }) (after e r)
   unfolding after
-  after-close n t h = simp h
+  after-close c h = simp h
 
   pub sum_fits : (i w : ℕ) → e ≡ Store i w → (after e r).total < 4294967296 → Fits w32 (r.total + w)
   unfolding after
@@ -68,27 +66,27 @@ module _ (e : Effect) (t : List ℕ) where
   unfolding stored
   stored-new i w p h ep f at q = simp (h, ← ep) (q ∙ copied-from t p f at)
 
-  pub stored-none : (s : List ℕ) → OneOf (0 ∷ 2 ∷ []) (tag_of the_type e) → t ≡ stored e t s
+  pub stored-none : (s : List ℕ) → ((i w : ℕ) → e ≡ Store i w → ⊥) → t ≡ stored e t s
   unfolding stored
   stored-none s o = none e o
     where
-      none : (e : Effect) → OneOf (0 ∷ 2 ∷ []) (tag_of the_type e) → t ≡ stored e t s
+      none : (e : Effect) → ((i w : ℕ) → e ≡ Store i w → ⊥) → t ≡ stored e t s
       none Repeat o = refl
-      none (Store i w) o = absurd (miss (0 ∷ 2 ∷ []) 1 tt o)
-      none (Close n u) o = refl
+      none (Store i w) o = absurd (o i w refl)
+      none (Close c) o = refl
 
   pub kept_store : (i w p : ℕ) → e ≡ Store i w → p ≡ slot_at i → {u : List ℕ} → u ≡ copied (replicate 16 0) 0 t p → u ≡ kept_for e t
   unfolding kept_for
   kept_store i w p h ep q = simp (h, ← ep) q
 
-  pub kept-none : OneOf (0 ∷ 2 ∷ []) (tag_of the_type e) → replicate 16 0 ≡ kept_for e t
+  pub kept-none : ((i w : ℕ) → e ≡ Store i w → ⊥) → replicate 16 0 ≡ kept_for e t
   unfolding kept_for
   kept-none o = none e o
     where
-      none : (e : Effect) → OneOf (0 ∷ 2 ∷ []) (tag_of the_type e) → replicate 16 0 ≡ kept_for e t
+      none : (e : Effect) → ((i w : ℕ) → e ≡ Store i w → ⊥) → replicate 16 0 ≡ kept_for e t
       none Repeat o = refl
-      none (Store i w) o = absurd (miss (0 ∷ 2 ∷ []) 1 tt o)
-      none (Close n u) o = refl
+      none (Store i w) o = absurd (o i w refl)
+      none (Close c) o = refl
 
 -- ---- a store undone
 
@@ -133,7 +131,7 @@ pub undone : (e : Effect) (t s : List ℕ) → stored e (stored e t s) (kept_for
 unfolding stored kept_for
 undone Repeat t s = refl
 undone (Store i w) t s = copy-undone t s (slot_at i)
-undone (Close n u) t s = refl
+undone (Close c) t s = refl
 
 -- ---- a table keeps its length
 
@@ -152,10 +150,10 @@ pub stored-length : (e : Effect) (t s : List ℕ) → length (stored e t s) ≡ 
 unfolding stored
 stored-length Repeat t s = refl
 stored-length (Store i w) t s = copied-length t (slot_at i) s 0
-stored-length (Close n u) t s = refl
+stored-length (Close c) t s = refl
 
 pub kept-length : (e : Effect) (t : List ℕ) → length (kept_for e t) ≡ 16
 unfolding kept_for
 kept-length Repeat t = refl
 kept-length (Store i w) t = copied-length (replicate 16 0) 0 t (slot_at i)
-kept-length (Close n u) t = refl
+kept-length (Close c) t = refl

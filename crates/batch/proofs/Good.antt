@@ -1,4 +1,5 @@
 -- A state that is not bad: opening gives one, and no record or frame leads out. Its total fits 32 bits. Assumes nothing.
+use Rattle.std.specs.Prelude.{Ok}
 use mathlib.Core.Path.{◌≡◌, refl, ◌∙◌}
 use mathlib.Core.Bool.{Bool, true, false, ◌||◌}
 use mathlib.Core.List.{List}
@@ -17,7 +18,6 @@ use Rattle.batch.specs.Verdict.{verdict, after}
 use Rattle.batch.specs.Frame.{taken, take_all}
 use Rattle.batch.specs.declared.Receiver.{Receiver}
 use Rattle.batch.specs.declared.judge.Effect.{Effect}
-use Rattle.batch.specs.declared.judge.Verdict.TheVariants.{Take}
 use Rattle.batch.proofs.Fold.{by_records}
 use Rattle.batch.proofs.Asked.{Asked, new, known, first, again, asked}
 
@@ -103,11 +103,11 @@ good-asked r s n g (new batch i x y z w q in_slots in_limit free) =
       light = omega (arith, g.light, all, read-weight s q);
     }
 good-asked r s n g (known batch i x y z w q in_slots set) = g
-good-asked r s n g (first batch m t q in_slots fresh free) =
+good-asked r s n g (first batch c q in_slots fresh free) =
     record { words = g.words; room = g.room; few = g.few; below = free; limited = in_slots; light = g.light }
-good-asked r s n g (again batch m t q same) = g
+good-asked r s n g (again batch c q same) = g
 
-pub good-after : (k : ℕ) (r : Receiver) (t s : List ℕ) (e : Effect) (n : ℕ) → Good r n → verdict k r t s ≡ Take e → Good (after e r) n
+pub good-after : (k : ℕ) (r : Receiver) (t s : List ℕ) (e : Effect) (n : ℕ) → Good r n → verdict k r t s ≡ Ok e → Good (after e r) n
 good-after k r t s e n g h = good-asked r s n g (asked k r t s e h)
 
 -- ---- a frame

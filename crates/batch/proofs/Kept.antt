@@ -1,5 +1,6 @@
 -- What no frame changes: that the state is good and within its types, the table's length, the slot count and the batch number.
 -- Assumes nothing.
+use Rattle.std.specs.Prelude.{Option, Some, None}
 use mathlib.Core.Path.{◌≡◌, refl, ◌∙◌}
 use mathlib.Core.Bool.{Bool, true, false}
 use mathlib.Core.List.{List}
@@ -14,7 +15,6 @@ use Rattle.batch.specs.Frame.{Outcome, refused, taken, take_all, outcome, next_a
 use Rattle.batch.specs.Verdict.{after}
 use Rattle.batch.specs.declared.Receiver.{Receiver}
 use Rattle.batch.specs.declared.Close as held
-use Rattle.batch.specs.declared.Close.TheVariants.{Not, Taken}
 use Rattle.batch.specs.declared.judge.Effect.{Effect}
 use Rattle.batch.proofs.Asked.{Asked, new, known, first, again, asked}
 use Rattle.batch.proofs.Effects.{stored-length}
@@ -55,17 +55,17 @@ accept-batch r t f =
     (λ r' t' e. by_records (λ n r t s r' t'. r'.batch ≡ r.batch) (λ r t s. refl) (λ n k r t s e r' t' q ih. ih ∙ after-batch e r) (length f / 16) 0 r t f r' t' e)
 
 -- The total of a taken close; 0 before there is one.
-abbrev pub closed_total : held.Close → ℕ
-closed_total Not = 0
-closed_total (Taken count total) = total
+abbrev pub closed_total : Option held.Close → ℕ
+closed_total None = 0
+closed_total (Some close) = close.total
 
 -- over bytes it fits 32 bits
 asked-closed : (r : Receiver) (s : List ℕ) {e : Effect} → Bytes s → Asked r s e → closed_total r.close < 4294967296 → closed_total (after e r).close < 4294967296
 unfolding after
 asked-closed r s b (new batch i x y z w q in_slots in_limit free) h = h
 asked-closed r s b (known batch i x y z w q in_slots set) h = h
-asked-closed r s b (first batch n t q in_slots fresh free) h = read-total s b q
-asked-closed r s b (again batch n t q same) h = h
+asked-closed r s b (first batch c q in_slots fresh free) h = read-total s b q
+asked-closed r s b (again batch c q same) h = h
 
 pub accept-closed : (r : Receiver) (t f : List ℕ) → Bytes f → closed_total r.close < 4294967296 → closed_total (accept_next r t f).close < 4294967296
 accept-closed r t f b h =

@@ -10,8 +10,9 @@ use borrow.Author.Tests.{eqb-true, eqb-false}
 use Rattle.marks.specs.Marks.{marked}
 use Rattle.record.specs.Record.{read_of}
 use Rattle.record.specs.declared.Record.TheVariants as kind
-use Rattle.record.specs.declared.ReadAnswer.{ReadAnswer}
-use Rattle.record.specs.declared.ReadAnswer.TheVariants as read
+use Rattle.std.specs.Prelude.{Result, Ok, Err}
+use Rattle.record.specs.declared.BadRecord.{BadRecord}
+use Rattle.record.specs.declared.Record.{Record}
 use Rattle.batch.specs.Verdict.{after}
 use Rattle.batch.specs.Frame.{taken, take_all}
 use Rattle.batch.specs.declared.Receiver.{Receiver}
@@ -23,10 +24,10 @@ use Rattle.batch.proofs.Good.{Good, good-after}
 use Rattle.batch.proofs.Records.{store-marks, store-others, close-marks, repeat_state}
 
 -- The record is a particle of index j.
-abbrev pub is_index : ReadAnswer → (j : ℕ) → Bool
-is_index (read.Good (kind.Particle batch i x y z w)) j = eqb j i
-is_index (read.Good (kind.Close batch n t)) j = false
-is_index read.BadRecord j = false
+abbrev pub is_index : Result Record BadRecord → (j : ℕ) → Bool
+is_index (Ok (kind.Particle batch i x y z w)) j = eqb j i
+is_index (Ok (kind.Close batch n t)) j = false
+is_index (Err _) j = false
 
 -- Among the n records that s starts with is a particle of index j.
 abbrev pub among : (n : ℕ) (s : List ℕ) (j : ℕ) → Bool
@@ -54,9 +55,9 @@ marked-after r s m j g (new batch i x y z w q in_slots in_limit free) =
     let few = g.few in
     rw q (with-new r i w j g.words (omega arith))
 marked-after r s m j g (known batch i x y z w q in_slots set) = rw (q, repeat_state r) (with-known r i j set)
-marked-after r s m j g (first batch n t q in_slots fresh free) =
-    rw (q, or-false (marked r.marks j)) (ap (λ (ws : List ℕ). marked ws j) (close-marks r n t))
-marked-after r s m j g (again batch n t q same) = rw (q, repeat_state r, or-false (marked r.marks j))
+marked-after r s m j g (first batch c q in_slots fresh free) =
+    rw (q, or-false (marked r.marks j)) (ap (λ (ws : List ℕ). marked ws j) (close-marks r c))
+marked-after r s m j g (again batch c q same) = rw (q, repeat_state r, or-false (marked r.marks j))
 
 pub marks-after : (n k : ℕ) (r : Receiver) (t s : List ℕ) (r' : Receiver) (t' : List ℕ) (m : ℕ) → take_all n k r t s ≡ taken r' t' → Good r m → (j : ℕ)
     → marked r'.marks j ≡ (marked r.marks j || among n s j)

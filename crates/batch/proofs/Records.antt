@@ -1,4 +1,5 @@
 -- What one record does, in words: which index is marked, what the total grows by, what its slot holds. Assumes nothing.
+use Rattle.std.specs.Prelude.{Some}
 use mathlib.Core.Path.{◌≡◌, refl, sym, ap, ◌∙◌}
 use mathlib.Core.Logic.{◌≢◌}
 use mathlib.Core.Bool.{true}
@@ -14,7 +15,7 @@ use Rattle.marks.proofs.Marks.{set-mark-here, set-mark-other}
 use Rattle.batch.specs.State.{slot_at, slot}
 use Rattle.batch.specs.Verdict.{after, stored}
 use Rattle.batch.specs.declared.Receiver.{Receiver}
-use Rattle.batch.specs.declared.Close.TheVariants.{Taken}
+use Rattle.batch.specs.declared.Close as held
 use Rattle.batch.specs.declared.judge.Effect.{Effect}
 use Rattle.batch.specs.declared.judge.Effect.TheVariants.{Repeat, Store, Close}
 
@@ -81,17 +82,17 @@ store-other-slot i w j t s h k d =
 
 -- ---- a close
 
-pub close-taken : (r : Receiver) (n u : ℕ) → (after (Close n u) r).close ≡ Taken n u
+pub close-taken : (r : Receiver) (c : held.Close) → (after (Close c) r).close ≡ Some c
 unfolding after
-close-taken r n u = refl
+close-taken r c = refl
 
-pub close-marks : (r : Receiver) (n u : ℕ) → (after (Close n u) r).marks ≡ r.marks
+pub close-marks : (r : Receiver) (c : held.Close) → (after (Close c) r).marks ≡ r.marks
 unfolding after
-close-marks r n u = refl
+close-marks r c = refl
 
-pub close-total : (r : Receiver) (n u : ℕ) → (after (Close n u) r).total ≡ r.total
+pub close-total : (r : Receiver) (c : held.Close) → (after (Close c) r).total ≡ r.total
 unfolding after
-close-total r n u = refl
+close-total r c = refl
 
 -- ---- a repeat changes nothing
 
@@ -105,10 +106,10 @@ pub after-slots : (e : Effect) (r : Receiver) → (after e r).slots ≡ r.slots
 unfolding after
 after-slots Repeat r = refl
 after-slots (Store i w) r = refl
-after-slots (Close n u) r = refl
+after-slots (Close c) r = refl
 
 pub after-batch : (e : Effect) (r : Receiver) → (after e r).batch ≡ r.batch
 unfolding after
 after-batch Repeat r = refl
 after-batch (Store i w) r = refl
-after-batch (Close n u) r = refl
+after-batch (Close c) r = refl

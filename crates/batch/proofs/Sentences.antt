@@ -1,4 +1,5 @@
 -- 01's sentences about the receiver's calls. Assumes nothing.
+use Rattle.std.specs.Prelude.{Option, Some, None}
 use mathlib.Core.Path.{◌≡◌, refl}
 use mathlib.Core.Bool.{Bool, true, false}
 use mathlib.Core.List.{List}
@@ -11,7 +12,6 @@ use Rattle.batch.specs.Frame.{Outcome, refused, taken, outcome, outcome_told, ne
 use Rattle.batch.specs.Sentences.{NotBad, NeverBad, RefusedUnchanged}
 use Rattle.batch.specs.declared.Receiver.{Receiver}
 use Rattle.batch.specs.declared.Close.{Close}
-use Rattle.batch.specs.declared.Close.TheVariants.{Not, Taken}
 use Rattle.batch.proofs.Good.{Good, good, not_bad, open-good}
 use Rattle.batch.proofs.Kept.{accept-length, accept-good}
 
@@ -30,11 +30,11 @@ never-bad = record {
 -- ---- a refusal changes nothing
 
 -- how a batch stands is told from 15 on
-pub stands_from : (marked sum : ℕ) (c : Close) → 15 ≤ (stand_by marked sum c).number
-stands_from m s Not = omega arith
-stands_from m s (Taken count total) = go (ltb m count) (eqb s total) refl refl
+pub stands_from : (marked sum : ℕ) (c : Option Close) → 15 ≤ (stand_by marked sum c).number
+stands_from m s None = omega arith
+stands_from m s (Some c) = go (ltb m c.count) (eqb s c.total) refl refl
   where
-    go : (a b : Bool) → ltb m count ≡ a → eqb s total ≡ b → 15 ≤ (stand_by m s (Taken count total)).number
+    go : (a b : Bool) → ltb m c.count ≡ a → eqb s c.total ≡ b → 15 ≤ (stand_by m s (Some c)).number
     go true b p q = rw p (omega arith)
     go false true p q = rw (p, q) (omega arith)
     go false false p q = rw (p, q) (omega arith)

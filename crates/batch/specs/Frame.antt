@@ -1,42 +1,42 @@
 -- 01 "The batch receiver": a frame, record by record, and what `accept` answers and leaves. Assumes nothing.
-use Rattle.std.specs.Prelude.{List, ℕ, zero, suc, ◌/◌, length, drop, if◌then◌else◌}
-use Rattle.cobs.specs.Answers.{Told, bad_state, bad_length, bad_record, stale, ahead, no_room, beyond_close, conflict, still_open, missing, complete, differs}
+use Rattle.std.specs.Prelude.{List, Result, Ok, Err, ℕ, zero, suc, ◌/◌, length, drop, if◌then◌else◌}
+use Rattle.cobs.specs.Answers.{Told, bad_state, bad_length, bad_record, stale, ahead, no_room, beyond_close, conflict}
 use Rattle.record.specs.Frame.{is_bad_length}
-use Rattle.batch.specs.State.{is_bad, stand_told}
-use Rattle.batch.specs.Verdict.{verdict, after, stored}
+use Rattle.batch.specs.State.{is_bad, told_stand, stand_told}
+use Rattle.batch.specs.Verdict.{Verdict, verdict, after, stored}
 use Rattle.batch.specs.declared.Receiver.{Receiver}
-use Rattle.batch.specs.declared.Answer.{Answer}
-use Rattle.batch.specs.declared.Answer.TheVariants.{BadState, BadLength, BadRecord, Stale, Ahead, NoRoom, BeyondClose, Conflict, Open, Missing, Complete, Differs}
+use Rattle.batch.specs.declared.Refusal.{Refusal}
+use Rattle.batch.specs.declared.Refusal.TheVariants.{BadState, BadLength, BadRecord, Stale, Ahead, NoRoom, BeyondClose, Conflict}
+use Rattle.batch.specs.declared.Standing.{Standing}
 use Rattle.batch.specs.declared.judge.Effect.{Effect}
-use Rattle.batch.specs.declared.judge.Verdict.{Verdict}
-use Rattle.batch.specs.declared.judge.Verdict.TheVariants.{Take, Refuse}
+
+-- A refusal, told.
+abbrev pub told_refusal : Refusal → Told
+told_refusal BadState = bad_state
+told_refusal BadLength = bad_length
+told_refusal (BadRecord k) = bad_record k
+told_refusal (Stale k) = stale k
+told_refusal (Ahead k) = ahead k
+told_refusal (NoRoom k) = no_room k
+told_refusal (BeyondClose k) = beyond_close k
+told_refusal (Conflict k) = conflict k
 
 -- What `accept` answers, told.
-abbrev pub told : Answer → Told
-told BadState = bad_state
-told BadLength = bad_length
-told (BadRecord k) = bad_record k
-told (Stale k) = stale k
-told (Ahead k) = ahead k
-told (NoRoom k) = no_room k
-told (BeyondClose k) = beyond_close k
-told (Conflict k) = conflict k
-told Open = still_open
-told (Missing k) = missing k
-told Complete = complete
-told Differs = differs
+abbrev pub told : Result Standing Refusal → Told
+told (Ok standing) = told_stand standing
+told (Err refusal) = told_refusal refusal
 
 -- ---- The records of a frame, each against what the earlier ones would have left
 
 -- A refusal at any record refuses the whole frame; else the state and the table after all of them.
 pub data Outcome : Type 0 where
-  refused : Answer → Outcome
+  refused : Refusal → Outcome
   taken : Receiver → (table : List ℕ) → Outcome
 
 -- `on` goes on with the effect of a record that is not refused.
 abbrev pub on_verdict : Verdict → (on : Effect → Outcome) → Outcome
-on_verdict (Refuse answer) on = refused answer
-on_verdict (Take effect) on = on effect
+on_verdict (Err refusal) on = refused refusal
+on_verdict (Ok effect) on = on effect
 
 -- The n records that s starts with, the first of them number k.
 unfoldable pub take_all : (n k : ℕ) → Receiver → (table s : List ℕ) → Outcome
@@ -55,17 +55,17 @@ outcome r table frame =
 
 -- The refusal, or how the batch stands.
 abbrev pub outcome_told : Outcome → Told
-outcome_told (refused answer) = told answer
+outcome_told (refused refusal) = told_refusal refusal
 outcome_told (taken r table) = stand_told r
 
 -- A refused frame changes neither the state nor the table.
 abbrev pub next_after : Receiver → Outcome → Receiver
-next_after r (refused answer) = r
+next_after r (refused refusal) = r
 next_after r (taken next table) = next
 
 -- The table after it.
 abbrev pub table_after : (table : List ℕ) → Outcome → List ℕ
-table_after table (refused answer) = table
+table_after table (refused refusal) = table
 table_after table (taken next left) = left
 
 -- What `accept` answers to a frame.

@@ -1,13 +1,13 @@
 -- 01 "The batch receiver": its state, when that is bad, and how a batch stands. Assumes nothing.
-use Rattle.std.specs.Prelude.{Bool, ◌||◌, List, ℕ, ◌-◌, ◌*◌, ◌/◌, min, eqb, take, drop, if◌then◌else◌}
+use Rattle.std.specs.Prelude.{Bool, ◌||◌, List, Option, Some, None, Result, Ok, Err, ℕ, ◌-◌, ◌*◌, ◌/◌, min, eqb, take, drop, if◌then◌else◌}
 use Rattle.cobs.specs.Words.{◌exceeds◌}
 use Rattle.cobs.specs.Answers.{Told, bad_state, still_open, missing, complete, differs}
+use Rattle.cobs.specs.declared.refusals.BadState.{BadState}
 use Rattle.marks.specs.Marks.{no_marks, marked_below}
 use Rattle.batch.specs.declared.Receiver.{Receiver}
 use Rattle.batch.specs.declared.Close.{Close}
-use Rattle.batch.specs.declared.Close.TheVariants.{Not, Taken}
 use Rattle.batch.specs.declared.Standing.{Standing}
-use Rattle.batch.specs.declared.Standing.TheVariants.{BadState, Open, Missing, Complete, Differs}
+use Rattle.batch.specs.declared.Standing.TheVariants.{Open, Missing, Complete, Differs}
 
 -- ---- Slots of 16 bytes
 
@@ -27,7 +27,7 @@ room_for n = n / 16
 
 -- Opening a batch on a table of n bytes clears marks, total and close. Slot count: table length / 16, at most 4,096.
 unfoldable pub opened : (batch n : ℕ) → Receiver
-opened batch n = record { marks = no_marks; total = 0; close = Not; slots = min (room_for n) 4_096; batch = batch }
+opened batch n = record { marks = no_marks; total = 0; close = None; slots = min (room_for n) 4_096; batch = batch }
 
 -- How many indices are marked.
 abbrev pub marked_in : Receiver → ℕ
@@ -38,9 +38,9 @@ abbrev pub mark_from : (n : ℕ) → Receiver → Bool
 mark_from n r = marked_in r exceeds marked_below r.marks n
 
 -- The slot count, or a taken close's count.
-abbrev pub limit_by : (slots : ℕ) → Close → ℕ
-limit_by slots Not = slots
-limit_by slots (Taken count total) = count
+abbrev pub limit_by : (slots : ℕ) → Option Close → ℕ
+limit_by slots None = slots
+limit_by slots (Some close) = close.count
 
 -- Where the indices that may be taken end.
 unfoldable pub limit : Receiver → ℕ
@@ -55,19 +55,23 @@ is_bad r n =
 
 -- ---- How a batch stands
 
+-- How a batch stands, told.
+abbrev pub told_stand : Standing → Told
+told_stand Open = still_open
+told_stand (Missing k) = missing k
+told_stand Complete = complete
+told_stand Differs = differs
+
 -- What `stands` answers, told.
-abbrev pub told_standing : Standing → Told
-told_standing BadState = bad_state
-told_standing Open = still_open
-told_standing (Missing k) = missing k
-told_standing Complete = complete
-told_standing Differs = differs
+abbrev pub told_standing : Result Standing BadState → Told
+told_standing (Ok standing) = told_stand standing
+told_standing (Err refusal) = bad_state
 
 -- Open (no close), Missing k (k = N minus marked, at least 1), Complete, Differs (all marked, totals unequal).
-abbrev pub stand_by : (marked sum : ℕ) → Close → Told
-stand_by marked sum Not = still_open
-stand_by marked sum (Taken count total) =
-    if count exceeds marked then missing (count - marked) else if eqb sum total then complete else differs
+abbrev pub stand_by : (marked sum : ℕ) → Option Close → Told
+stand_by marked sum None = still_open
+stand_by marked sum (Some close) =
+    if close.count exceeds marked then missing (close.count - marked) else if eqb sum close.total then complete else differs
 
 -- By the marks, the total and the close.
 unfoldable pub stand_told : Receiver → Told

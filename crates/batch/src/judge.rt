@@ -3,36 +3,30 @@ ghost use Rattle.std.specs.Prelude.{◌≡◌, ◌/◌, drop};
 ghost use Rattle.batch.specs.Verdict.{batch_in, on_particle, on_close, on_ours, on_read};
 ghost use Rattle.record.specs.Record.{read_of};
 
-use crate::{Answer, Close, Receiver};
+use crate::{Close, Receiver, Refusal};
 use record::frame::SIZE;
-use record::{Class, ReadAnswer, Record};
+use record::{Class, Record};
 
 /// What a record that is not refused does.
-#[derive(Clone, Copy)]
+#[derive(Clone, Copy, Debug, PartialEq, Eq)]
 pub enum Effect {
     Repeat,
     Store { index: u16, weight: u32 },
-    Close { count: u16, total: u32 },
-}
-
-#[derive(Clone, Copy)]
-pub enum Verdict {
-    Take(Effect),
-    Refuse(Answer),
+    Close(Close),
 }
 
 // The record at `at`.
-pub(crate) fn judge(r: Receiver, frame: &[u8], at: usize) -> Verdict
-    ensures { result ≡ on_read (at / 16) r (read_of 0 (drop at frame.now)) }
+pub(crate) fn judge(r: &Receiver, frame: &[u8], at: usize) -> Result<Effect, Refusal>
+    ensures { result ≡ on_read (at / 16) r.now (read_of 0 (drop at frame.now)) }
 {
     let number = at / SIZE;
-    let ReadAnswer::Good(item) = record::read(frame, at) else {
-        return Verdict::Refuse(Answer::BadRecord(number));
+    let Ok(item) = record::read(frame, at) else {
+        return Err(Refusal::BadRecord(number));
     };
     match record::class_of(batch_in(item), r.batch) {
         Class::Ours => ours(r, number, item),
-        Class::Ahead => Verdict::Refuse(Answer::Ahead(number)),
-        Class::Stale => Verdict::Refuse(Answer::Stale(number)),
+        Class::Ahead => Err(Refusal::Ahead(number)),
+        Class::Stale => Err(Refusal::Stale(number)),
     }
 }
 
@@ -40,80 +34,52 @@ fn batch_in(item: Record) -> u16
     ensures { result ≡ batch_in item }
 {
     match item {
-        Record::Particle {
-            batch,
-            index: _,
-            x: _,
-            y: _,
-            z: _,
-            weight: _,
-        } => batch,
-        Record::Close {
-            batch,
-            count: _,
-            total: _,
-        } => batch,
+        Record::Particle { batch, .. } => batch,
+        Record::Close { batch, .. } => batch,
     }
 }
 
-fn ours(r: Receiver, number: usize, item: Record) -> Verdict
-    ensures { result ≡ on_ours number r item }
+fn ours(r: &Receiver, number: usize, item: Record) -> Result<Effect, Refusal>
+    ensures { result ≡ on_ours number r.now item }
 {
     match item {
-        Record::Particle {
-            batch: _,
-            index,
-            x: _,
-            y: _,
-            z: _,
-            weight,
-        } => particle(r, number, index, weight),
-        Record::Close {
-            batch: _,
-            count,
-            total,
-        } => close(r, number, count, total),
+        Record::Particle { index, weight, .. } => particle(r, number, index, weight),
+        Record::Close { count, total, .. } => {
+            let count = count as usize;
+            close(r, number, Close { count, total })
+        }
     }
 }
 
-fn particle(r: Receiver, number: usize, index: u16, weight: u32) -> Verdict
-    ensures { result ≡ on_particle number r index weight }
+fn particle(r: &Receiver, number: usize, index: u16, weight: u32) -> Result<Effect, Refusal>
+    ensures { result ≡ on_particle number r.now index weight }
 {
     if index as usize >= r.slots {
-        return Verdict::Refuse(Answer::NoRoom(number));
+        return Err(Refusal::NoRoom(number));
     }
     if index as usize >= crate::state::limit(r) {
-        return Verdict::Refuse(Answer::BeyondClose(number));
+        return Err(Refusal::BeyondClose(number));
     }
     if marks::is_marked(&r.marks, index as usize) {
-        return Verdict::Take(Effect::Repeat);
+        return Ok(Effect::Repeat);
     }
-    Verdict::Take(Effect::Store { index, weight })
+    Ok(Effect::Store { index, weight })
 }
 
-fn close(r: Receiver, number: usize, count: u16, total: u32) -> Verdict
-    ensures { result ≡ on_close number r count total }
+fn close(r: &Receiver, number: usize, close: Close) -> Result<Effect, Refusal>
+    ensures { result ≡ on_close number r.now close }
 {
-    if count as usize > r.slots {
-        return Verdict::Refuse(Answer::NoRoom(number));
+    if close.count > r.slots {
+        return Err(Refusal::NoRoom(number));
     }
-    let taken = r.close;
-    if let Close::Taken {
-        count: first,
-        total: sum,
-    } = taken
-    {
-        if first != count as usize {
-            return Verdict::Refuse(Answer::Conflict(number));
+    if let Some(first) = r.close {
+        if first != close {
+            return Err(Refusal::Conflict(number));
         }
-        if sum != total {
-            return Verdict::Refuse(Answer::Conflict(number));
-        }
-        return Verdict::Take(Effect::Repeat);
+        return Ok(Effect::Repeat);
     }
-    let marked = marks::count(&r.marks);
-    if marked > marks::count_below(&r.marks, count as usize) {
-        return Verdict::Refuse(Answer::Conflict(number));
+    if marks::count(&r.marks) > marks::count_below(&r.marks, close.count) {
+        return Err(Refusal::Conflict(number));
     }
-    Verdict::Take(Effect::Close { count, total })
+    Ok(Effect::Close(close))
 }

@@ -6,34 +6,45 @@ pub mod judge;
 mod slots;
 mod state;
 
-ghost use Rattle.std.specs.Prelude.{◌≡◌, false, ◌%◌, ◌≤◌, length};
+ghost use Rattle.std.specs.Prelude.{◌≡◌, false, ◌%◌, ◌≤◌, length, OnOk};
 ghost use Rattle.batch.specs.State.{opened, is_bad, stands_told, told_standing};
-ghost use Rattle.batch.specs.Frame.{told, next_after, table_after, accept_told, accept_next, accept_table};
-ghost use Rattle.batch.specs.Helpers.{rest, verdict_of};
+ghost use Rattle.batch.specs.Frame.{told, outcome, next_after, table_after, accept_told, accept_next, accept_table};
+ghost use Rattle.batch.specs.Helpers.{rest, answer_by};
 
-use judge::{Effect, Verdict};
+use cobs::refusals::BadState;
 use record::frame::SIZE;
+use std::error::Error;
+use std::fmt;
 
 /// One batch of one board. A mark says that the particle of that index is in its slot.
 #[derive(Clone, Copy)]
 pub struct Receiver {
     pub marks: [u64; 64],
     pub total: u32,
-    pub close: Close,
+    pub close: Option<Close>,
     pub slots: usize,
     pub batch: u16,
 }
 
-/// The batch's close, once it is taken: the sender's count and total.
-#[derive(Clone, Copy)]
-pub enum Close {
-    Not,
-    Taken { count: usize, total: u32 },
+/// A close: the sender's count and total.
+#[derive(Clone, Copy, Debug, PartialEq, Eq)]
+pub struct Close {
+    pub count: usize,
+    pub total: u32,
 }
 
-/// What a frame is answered: a refusal, with the record's number from 0, or how the batch stands after it.
-#[derive(Clone, Copy)]
-pub enum Answer {
+/// How a batch stands: no close yet, so many missing, all there, or all there with another total than the close's.
+#[derive(Clone, Copy, Debug, PartialEq, Eq)]
+pub enum Standing {
+    Open,
+    Missing(usize),
+    Complete,
+    Differs,
+}
+
+/// Why a frame is refused, with the record's number from 0.
+#[derive(Clone, Copy, Debug, PartialEq, Eq)]
+pub enum Refusal {
     BadState,
     BadLength,
     BadRecord(usize),
@@ -42,51 +53,53 @@ pub enum Answer {
     NoRoom(usize),
     BeyondClose(usize),
     Conflict(usize),
-    Open,
-    Missing(usize),
-    Complete,
-    Differs,
 }
 
+/// The state after a frame, and its answer: how the batch stands then, or the refusal. Beside it, since states go out by value,
+/// after a refusal too.
 #[derive(Clone, Copy)]
 pub struct Accepted {
     pub next: Receiver,
-    pub answer: Answer,
+    pub answer: Result<Standing, Refusal>,
 }
 
-/// How a batch stands: no close yet, so many missing, all there, or all there with another total than the close's.
-#[derive(Clone, Copy)]
-pub enum Standing {
-    BadState,
-    Open,
-    Missing(usize),
-    Complete,
-    Differs,
+impl fmt::Display for Standing {
+    fn fmt<W: fmt::Write>(&self, f: &mut fmt::Formatter<W>) -> fmt::Result {
+        match self {
+            Standing::Open => f.write_str("Open"),
+            Standing::Missing(n) => write!(f, "Missing {n}"),
+            Standing::Complete => f.write_str("Complete"),
+            Standing::Differs => f.write_str("Differs"),
+        }
+    }
 }
 
-// What a frame's records came to: the first verdict that refuses, or the state after all of them.
-#[derive(Clone, Copy)]
-struct Taken {
-    verdict: Verdict,
-    next: Receiver,
+impl fmt::Display for Refusal {
+    fn fmt<W: fmt::Write>(&self, f: &mut fmt::Formatter<W>) -> fmt::Result {
+        match self {
+            Refusal::BadState => f.write_str("BadState"),
+            Refusal::BadLength => f.write_str("BadLength"),
+            Refusal::BadRecord(k) => write!(f, "BadRecord {k}"),
+            Refusal::Stale(k) => write!(f, "Stale {k}"),
+            Refusal::Ahead(k) => write!(f, "Ahead {k}"),
+            Refusal::NoRoom(k) => write!(f, "NoRoom {k}"),
+            Refusal::BeyondClose(k) => write!(f, "BeyondClose {k}"),
+            Refusal::Conflict(k) => write!(f, "Conflict {k}"),
+        }
+    }
 }
+
+impl Error for Refusal {}
 
 /// Opens a batch: no marks, no total, no close. The table's bytes stay.
 pub fn open(batch: u16, table: &[u8]) -> Receiver
     ensures { result ≡ opened batch (length table.now) }
 {
-    let room = slots::room_for(table.len());
-    let slots = if room < slots::MOST {
-        room
-    } else {
-        slots::MOST
-    };
-    let marks = marks::none();
     Receiver {
-        marks,
+        marks: marks::none(),
         total: 0,
-        close: Close::Not,
-        slots,
+        close: None,
+        slots: slots::room_for(table.len()).min(slots::MOST),
         batch,
     }
 }
@@ -97,73 +110,64 @@ pub fn accept(receiver: Receiver, table: &mut [u8], frame: &[u8]) -> Accepted
     ensures state { result.next ≡ accept_next receiver table.old frame.now }
     ensures memory { table.new ≡ accept_table receiver table.old frame.now }
 {
-    if state::is_bad(receiver, table.len()) {
-        return Accepted {
+    let mut next = receiver;
+    match whole(&mut next, table, frame) {
+        Ok(()) => Accepted {
+            next,
+            answer: Ok(state::standing(&next)),
+        },
+        Err(refusal) => Accepted {
             next: receiver,
-            answer: Answer::BadState,
-        };
+            answer: Err(refusal),
+        },
     }
-    if record::frame::is_bad_length(frame.len()) {
-        return Accepted {
-            next: receiver,
-            answer: Answer::BadLength,
-        };
-    }
-    let taken = take(receiver, table, frame, 0);
-    let verdict = taken.verdict;
-    let next = taken.next;
-    if let Verdict::Refuse(answer) = verdict {
-        return Accepted {
-            next: receiver,
-            answer,
-        };
-    }
-    let answer = state::as_answer(state::standing(next));
-    Accepted { next, answer }
 }
 
 /// How the batch stands.
-pub fn stands(receiver: Receiver, table: &[u8]) -> Standing
+pub fn stands(receiver: Receiver, table: &[u8]) -> Result<Standing, BadState>
     ensures { told_standing result ≡ stands_told receiver (length table.now) }
 {
     if state::is_bad(receiver, table.len()) {
-        return Standing::BadState;
+        return Err(BadState);
     }
-    state::standing(receiver)
+    Ok(state::standing(&receiver))
+}
+
+// The whole frame. The state is left as it is after the records; after a refusal it is of no use.
+fn whole(receiver: &mut Receiver, table: &mut [u8], frame: &[u8]) -> Result<(), Refusal>
+    ensures answer { result ≡ answer_by (outcome receiver.old table.old frame.now) }
+    ensures state { OnOk result (receiver.new ≡ next_after receiver.old (outcome receiver.old table.old frame.now)) }
+    ensures memory { table.new ≡ table_after table.old (outcome receiver.old table.old frame.now) }
+{
+    if state::is_bad(*receiver, table.len()) {
+        return Err(Refusal::BadState);
+    }
+    if record::frame::is_bad_length(frame.len()) {
+        return Err(Refusal::BadLength);
+    }
+    take(receiver, table, frame, 0)
 }
 
 // The records from `at` on. A level keeps the 16 bytes that its record's particle is stored over, and puts them back if a
-// later record is refused; a frame has 15 levels at most.
-fn take(receiver: Receiver, table: &mut [u8], frame: &[u8], at: usize) -> Taken
-    requires table_value { (is_bad receiver (length table.old) ≡ false) × (length receiver.marks ≡ 64) }
+// later record is refused; a frame has 15 levels at most. It calls itself for that, no loop: without a heap they stand on the
+// stack. The frame goes down whole with a place, not in chunks, since `record::read` and `copy16` take it so.
+fn take(receiver: &mut Receiver, table: &mut [u8], frame: &[u8], at: usize) -> Result<(), Refusal>
+    requires table_value { (is_bad receiver.old (length table.old) ≡ false) × (length receiver.old.marks ≡ 64) }
     requires at_in_bounds { (at ≤ length frame.now) × (at % 16 ≡ 0) × (length frame.now % 16 ≡ 0) }
-    ensures answer { result.verdict ≡ verdict_of (rest frame.now at receiver table.old) }
-    ensures state { result.next ≡ next_after receiver (rest frame.now at receiver table.old) }
-    ensures memory { table.new ≡ table_after table.old (rest frame.now at receiver table.old) }
+    ensures answer { result ≡ answer_by (rest frame.now at receiver.old table.old) }
+    ensures state { OnOk result (receiver.new ≡ next_after receiver.old (rest frame.now at receiver.old table.old)) }
+    ensures memory { table.new ≡ table_after table.old (rest frame.now at receiver.old table.old) }
 {
     if at == frame.len() {
-        return Taken {
-            verdict: Verdict::Take(Effect::Repeat),
-            next: receiver,
-        };
+        return Ok(());
     }
-    let verdict = judge::judge(receiver, frame, at);
-    let Verdict::Take(effect) = verdict else {
-        return Taken {
-            verdict,
-            next: receiver,
-        };
-    };
+    let effect = judge::judge(receiver, frame, at)?;
     let kept = slots::kept(effect, table);
     slots::store(effect, table, frame, at);
-    let rest = take(state::after(receiver, effect), table, frame, at + SIZE);
-    let last = rest.verdict;
-    let Verdict::Take(_) = last else {
+    state::apply(receiver, effect);
+    let rest = take(receiver, table, frame, at + SIZE);
+    if rest.is_err() {
         slots::store(effect, table, &kept, 0);
-        return Taken {
-            verdict: last,
-            next: receiver,
-        };
-    };
+    }
     rest
 }

@@ -28,7 +28,7 @@ pub(crate) fn kept(effect: Effect, table: &[u8]) -> [u8; 16]
     ensures { result ≡ kept_for effect table.now }
 {
     let mut bytes = [0u8; 16];
-    if let Effect::Store { index, weight: _ } = effect {
+    if let Effect::Store { index, .. } = effect {
         blocks::copy16(&mut bytes, 0, table, slot_at(index));
     }
     bytes
@@ -38,7 +38,7 @@ pub(crate) fn kept(effect: Effect, table: &[u8]) -> [u8; 16]
 pub(crate) fn store(effect: Effect, table: &mut [u8], bytes: &[u8], at: usize)
     ensures { table.new ≡ stored effect table.old (drop at bytes.now) }
 {
-    if let Effect::Store { index, weight: _ } = effect {
+    if let Effect::Store { index, .. } = effect {
         blocks::copy16(table, slot_at(index), bytes, at);
     }
 }

@@ -1,19 +1,21 @@
 -- Sixteen bytes: each turn of a loop over them, and what a test or a copy that was taken says. Assumes nothing.
-use Rattle.std.specs.Prelude.{if◌then◌else◌}
+use Rattle.std.specs.Prelude.{Some, None, if◌then◌else◌}
 use mathlib.Core.Path.{◌≡◌, refl, sym, ap, ◌∙◌}
 use mathlib.Core.Bool.{Bool, true, false, not, ◌&&◌, false≢true}
 use mathlib.Core.List.{List, [], ◌∷◌, ◌++◌}
 use Prim.Native.Nat.{ℕ, zero, suc, ◌+◌, ◌-◌, ◌≤◌, ◌<◌}
-use native.Mathlib.Nat.{not-suc-le-zero, le_of_suc-le-suc, zero-add}
-use lib.Bits.{bit_or}
+use native.Mathlib.Nat.{not-suc-le-zero, le_of_suc-le-suc}
 use native.Mathlib.Numerals.{add-one}
 use native.Mathlib.Omega.{arith}
-use lib.Dec.{eqb, leb}
+use lib.Dec.{eqb}
 use lib.ListN.{length, get_or, take, drop, set, replicate, length-drop}
-use lib.Seq.{paste, paste-suc, take-suc, take-suc-set, take-take, get_or-drop, get_or-take, length-take-le, take_all}
-use borrow.Author.Tests.{le-leb, lt-leb, leb-true, leb-false, eqb-true, eqb-false, not-true, not-false}
+use lib.Seq.{paste, paste-suc, take-suc, take-take, get_or-drop, get_or-take, length-take-le, take_all}
+use borrow.Author.Tests.{le-leb, leb-true, eqb-true, eqb-false, not-true}
+use borrow.Rule.Slice.PartMut.{put_mid}
+use Rattle.std.proofs.lemmas.Slice.{put_mid-paste}
 use Rattle.blocks.specs.declared.Taken.TheVariants.{Nothing, Clear, Zeros, Mixed}
-use Rattle.blocks.specs.Blocks.{stands, each, flag, sixteen, is_clear, is_all, copied, kind_of, taken_of, filled}
+use Rattle.blocks.specs.Blocks.{stands, each, sixteen, is_clear, is_all, copied, kind_of, taken_of, filled}
+use Rattle.blocks.specs.Helpers.{block_at, moved}
 
 -- ---- a test of each byte
 
@@ -37,20 +39,35 @@ and_assoc : (a b c : Bool) → (a && b && c) ≡ (a && (b && c))
 and_assoc true b c = refl
 and_assoc false b c = refl
 
-flag-none : (t : Bool) → eqb (flag t) 0 ≡ t
-flag-none true = refl
-flag-none false = refl
+-- ---- sixteen bytes that were read, or not
+
+pub block_some : (s : List ℕ) (at : ℕ) (block : List ℕ) → Some block ≡ block_at s at → (at + 16 ≤ length s) × (block ≡ take 16 (drop at s))
+block_some s at block e = go (stands (length s) at) refl e
+  where
+    go : (t : Bool) → stands (length s) at ≡ t → Some block ≡ (if t then Some (take 16 (drop at s)) else None)
+        → (at + 16 ≤ length s) × (block ≡ take 16 (drop at s))
+    go true q e = (leb-true (at + 16) (length s) q, cc)
+    go false q e = absurd (cc)
+
+pub block_none : (s : List ℕ) (at : ℕ) → None ≡ block_at s at → stands (length s) at ≡ false
+block_none s at e = go (stands (length s) at) refl e
+  where
+    go : (t : Bool) → stands (length s) at ≡ t → None ≡ (if t then Some (take 16 (drop at s)) else None) → t ≡ false
+    go true q e = absurd (cc)
+    go false q e = refl
 
 module _ (p : ℕ → Bool) where
   each_snoc : (s : List ℕ) (b : ℕ) → each p (s ++ b ∷ []) ≡ (each p s && p b)
   each_snoc [] b = and_true (p b)
   each_snoc (a ∷ s) b = ap (λ (t : Bool). p a && t) (each_snoc s b) ∙ sym (and_assoc (p a) (each p s) (p b))
 
-  -- one byte more is tested
-  each_more : (s : List ℕ) (at k : ℕ) → at + k < length s → (v : Bool) → v ≡ p (get_or s (at + k) 0)
-      → each p (take (k + 1) (drop at s)) ≡ (each p (take k (drop at s)) && v)
-  each_more s at k h v e =
-      rw (add-one k, take-suc (drop at s) k 0 (omega (arith, length-drop at s)), get_or-drop at s k 0, each_snoc (take k (drop at s)) (get_or s (at + k) 0), e)
+  -- one byte more is tested, and all of them are
+  pub each-turn : (s : List ℕ) (k : ℕ) (held answer : Bool) → k < length s → held ≡ each p (take k s) → answer ≡ p (get_or s k 0)
+      → (held && answer) ≡ each p (take (k + 1) s)
+  each-turn s k held answer h e q = rw (add-one k, take-suc s k 0 h, each_snoc (take k s) (get_or s k 0), e, q)
+
+  pub each-end : (s : List ℕ) (k : ℕ) (held : Bool) → length s ≤ k → held ≡ each p (take k s) → held ≡ each p s
+  each-end s k held h e = e ∙ ap (each p) (take_all k s h)
 
   -- what the test of a list says of each byte
   each_at : (s : List ℕ) → each p s ≡ true → (k : ℕ) → k < length s → p (get_or s k 0) ≡ true
@@ -74,13 +91,13 @@ module _ (p : ℕ → Bool) where
       go false q e = absurd (false≢true e)
 
   -- and the other way: where they do not stand, and where they do
-  pub sixteen-none : (s : List ℕ) (at : ℕ) → stands (length s) at ≡ false → false ≡ sixteen p s at
-  sixteen-none s at e = rw e
+  pub sixteen-none : (s : List ℕ) (at : ℕ) → None ≡ block_at s at → false ≡ sixteen p s at
+  sixteen-none s at e = rw (block_none s at e)
 
-  pub sixteen-some : (s : List ℕ) (at : ℕ) → at + 16 ≤ length s → (block : List ℕ) → block ≡ take 16 (drop at s) → (found : ℕ) → found ≡ flag (each p block)
-      → eqb found 0 ≡ sixteen p s at
-  sixteen-some s at h block e found q =
-      rw (le-leb (at + 16) (length s) h, q, e) (flag-none (each p (take 16 (drop at s))))
+  pub sixteen-some : (s : List ℕ) (at : ℕ) (block : List ℕ) → Some block ≡ block_at s at → (answer : Bool) → answer ≡ each p block → answer ≡ sixteen p s at
+  sixteen-some s at block e answer q =
+      let b = block_some s at block e in
+      rw (le-leb (at + 16) (length s) b.0, ← b.1) q
 
 -- ---- what the two tests say
 
@@ -96,21 +113,7 @@ all-says v s at e =
     let h = sixteen-at (λ b. eqb b v) s at e in
     (h.0, λ k l. eqb-true (get_or s (at + k) 0) v (h.1 k l))
 
--- ---- where sixteen bytes stand, and where not
-
-pub stands-less : (n at : ℕ) → 16 ≤ n → leb at (n - 16) ≡ stands n at
-stands-less n at h = go (stands n at) refl
-  where
-    go : (t : Bool) → stands n at ≡ t → leb at (n - 16) ≡ t
-    go true e = le-leb at (n - 16) (omega (arith, leb-true (at + 16) n e))
-    go false e = lt-leb at (n - 16) (omega (arith, leb-false (at + 16) n e))
-
--- the test `!stand(..)`, not taken
-pub stands_yes : (n at : ℕ) {t : Bool} → t ≡ stands n at → not t ≡ false → at + 16 ≤ n
-stands_yes n at {t} e h = leb-true (at + 16) n (sym e ∙ not-false t h)
-
-pub stands_no : (n at : ℕ) {t : Bool} → t ≡ stands n at → not t ≡ true → stands n at ≡ false
-stands_no n at {t} e h = sym e ∙ not-true t h
+-- ---- what is copied and filled, where sixteen bytes stand, and where not
 
 pub copied-fits : (d : List ℕ) (at : ℕ) (s : List ℕ) (from : ℕ) → at + 16 ≤ length d → from + 16 ≤ length s → copied d at s from ≡ paste d at (drop from s) 16
 unfolding copied
@@ -136,75 +139,54 @@ pub filled-dest : (d : List ℕ) (at v : ℕ) → stands (length d) at ≡ false
 unfolding filled
 filled-dest d at v e = rw e
 
--- ---- a turn of the loops that read and write
+-- ---- sixteen bytes of a slice written over
 
-pub read-turn : (s block : List ℕ) (at k : ℕ) → at + k < length s → k < length block → take k block ≡ take k (drop at s)
-    → take (k + 1) (set block k (get_or s (at + k) 0)) ≡ take (k + 1) (drop at s)
-read-turn s block at k h l e =
-    rw (add-one k, take-suc-set block k (get_or s (at + k) 0) l, take-suc (drop at s) k 0 (omega (arith, length-drop at s)), get_or-drop at s k 0, e)
+put : (d : List ℕ) (at : ℕ) (s t : List ℕ) → s ≡ t → length t ≡ 16 → put_mid at (at + 16 - at) d s ≡ paste d at t 16
+put d at s t e l = put_mid-paste at (at + 16 - at) d s t 16 e (omega arith) (omega arith)
 
 pub write-turn : (d₀ d : List ℕ) (at : ℕ) (block : List ℕ) (k : ℕ) → at + k < length d₀ → k < length block → d ≡ paste d₀ at block k
     → set d (at + k) (get_or block k 0) ≡ paste d₀ at block (k + 1)
 write-turn d₀ d at block k h l e = rw (add-one k, e) (paste-suc d₀ at block k 0 h l)
 
--- the block as it was read
-pub paste-block : (d : List ℕ) (at : ℕ) (block s : List ℕ) → block ≡ take 16 s → paste d at block 16 ≡ paste d at s 16
-paste-block d at block s e = rw (e, take-take 16 16 s (omega arith))
+pub moved-memory : (d : List ℕ) (at : ℕ) (s : List ℕ) (from : ℕ) → at + 16 ≤ length d → (block t : List ℕ)
+    → Some block ≡ block_at s from → t ≡ paste d at block 16 → t ≡ copied d at s from
+moved-memory d at s from h block t b q =
+    let r = block_some s from block b in
+    q ∙ rw (r.1, take-take 16 16 (drop from s) (omega arith)) refl ∙ sym (copied-fits d at s from h r.0)
 
--- ---- flags
+pub filled-memory : (d : List ℕ) (at v : ℕ) → stands (length d) at ≡ true → (t : List ℕ) → t ≡ replicate (length (take (at + 16 - at) (drop at d))) v
+    → put_mid at (at + 16 - at) d t ≡ filled d at v
+filled-memory d at v e t q =
+    let h : at + 16 ≤ length d = leb-true (at + 16) (length d) e in
+    let n : length (take (at + 16 - at) (drop at d)) ≡ 16 = length-take-le (at + 16 - at) (drop at d) (omega (arith, length-drop at d)) ∙ omega arith in
+    put d at t (replicate 16 v) (q ∙ ap (λ (k : ℕ). replicate k v) n) refl ∙ sym (filled-fits d at v h)
 
-flag_and : (a b : Bool) → bit_or (flag a) (flag b) ≡ flag (a && b)
-flag_and true true = refl
-flag_and true false = refl
-flag_and false true = refl
-flag_and false false = refl
-
--- one byte's flag is joined
-pub flag-turn : (p : ℕ → Bool) (s : List ℕ) (k found bit : ℕ) → k < length s → found ≡ flag (each p (take k s)) → bit ≡ flag (p (get_or s k 0))
-    → bit_or found bit ≡ flag (each p (take (k + 1) s))
-flag-turn p s k found bit h e q =
-    rw (e, q) (flag_and (each p (take k s)) (p (get_or s k 0)) ∙ ap flag (sym (each_more p s 0 k (rw zero-add h) (p (get_or s k 0)) (rw zero-add))))
-
--- and all sixteen are
-pub flag-end : (p : ℕ → Bool) (s : List ℕ) (k found : ℕ) → length s ≤ k → found ≡ flag (each p (take k s)) → found ≡ flag (each p s)
-flag-end p s k found h e = e ∙ ap (λ (t : List ℕ). flag (each p t)) (take_all k s h)
-
-pub flag_zero : (t : Bool) → flag t ≡ 0 → t ≡ true
-flag_zero true e = refl
-flag_zero false e = absurd (omega arith)
-
-pub flag-other : (t : Bool) → (flag t ≡ 0 → ⊥) → t ≡ false
-flag-other true e = absurd (e refl)
-flag-other false e = refl
-
--- ---- each way through `take16`
+-- ---- what a copy answers
 
 module _ (d : List ℕ) (at : ℕ) (s : List ℕ) (from : ℕ) where
-  pub taken-dest : stands (length d) at ≡ false → Nothing ≡ taken_of d at s from
+  pub taken_none : None ≡ moved d at s from → Nothing ≡ taken_of d at s from
   unfolding taken_of
-  taken-dest e = rw e
+  taken_none e = go (stands (length d) at) (stands (length s) from) e
+    where
+      go : (x y : Bool) → None ≡ (if x then (if y then Some (take 16 (drop from s)) else None) else None)
+          → Nothing ≡ (if x then (if y then kind_of (take 16 (drop from s)) else Nothing) else Nothing)
+      go true true e = absurd (cc)
+      go true false e = refl
+      go false y e = refl
 
-  pub taken-src : at + 16 ≤ length d → stands (length s) from ≡ false → Nothing ≡ taken_of d at s from
+  pub taken_some : (block : List ℕ) → Some block ≡ moved d at s from → kind_of block ≡ taken_of d at s from
   unfolding taken_of
-  taken-src h e = rw (le-leb (at + 16) (length d) h, e)
+  taken_some block e = go (stands (length d) at) (stands (length s) from) e
+    where
+      go : (x y : Bool) → Some block ≡ (if x then (if y then Some (take 16 (drop from s)) else None) else None)
+          → kind_of block ≡ (if x then (if y then kind_of (take 16 (drop from s)) else Nothing) else Nothing)
+      go true true e = let q : block ≡ take 16 (drop from s) = cc in ap kind_of q
+      go true false e = absurd (cc)
+      go false y e = absurd (cc)
 
-  pub taken-fits : at + 16 ≤ length d → from + 16 ≤ length s → taken_of d at s from ≡ kind_of (take 16 (drop from s))
+  taken-fits : at + 16 ≤ length d → from + 16 ≤ length s → taken_of d at s from ≡ kind_of (take 16 (drop from s))
   unfolding taken_of
   taken-fits h k = rw (le-leb (at + 16) (length d) h, le-leb (from + 16) (length s) k)
-
-  module _ (h : at + 16 ≤ length d) (k : from + 16 ≤ length s) (block : List ℕ) (b : block ≡ take 16 (drop from s)) where
-    pub taken-zeros : (other : ℕ) → other ≡ flag (each (λ x. eqb x 0) block) → other ≡ 0 → Zeros ≡ taken_of d at s from
-    taken-zeros other e z = sym (taken-fits h k ∙ rw (← b, flag_zero (each (λ x. eqb x 0) block) (sym e ∙ z)))
-
-    pub taken_clear : (other hit : ℕ) → other ≡ flag (each (λ x. eqb x 0) block) → hit ≡ flag (each (λ x. not (eqb x 0)) block)
-        → (other ≡ 0 → ⊥) → hit ≡ 0 → Clear ≡ taken_of d at s from
-    taken_clear other hit e q n z =
-        sym (taken-fits h k ∙ rw (← b, flag-other (each (λ x. eqb x 0) block) (λ f. n (e ∙ f)), flag_zero (each (λ x. not (eqb x 0)) block) (sym q ∙ z)))
-
-    pub taken-mixed : (other hit : ℕ) → other ≡ flag (each (λ x. eqb x 0) block) → hit ≡ flag (each (λ x. not (eqb x 0)) block)
-        → (other ≡ 0 → ⊥) → (hit ≡ 0 → ⊥) → Mixed ≡ taken_of d at s from
-    taken-mixed other hit e q n m =
-        sym (taken-fits h k ∙ rw (← b, flag-other (each (λ x. eqb x 0) block) (λ f. n (e ∙ f)), flag-other (each (λ x. not (eqb x 0)) block) (λ f. m (q ∙ f))))
 
 -- ---- what the kinds say, where sixteen bytes stand in both
 
@@ -214,16 +196,16 @@ module _ (s : List ℕ) (from : ℕ) (h : from + 16 ≤ length s) where
     where
       go : (x y : Bool) → (if x then Zeros else if y then Clear else Mixed) ≡ Zeros → x ≡ true
       go true y e = refl
-      go false true e = let z : ◌≡◌ {A = ℕ} 0 1 = cc in absurd (omega arith)
-      go false false e = let z : ◌≡◌ {A = ℕ} 0 1 = cc in absurd (omega arith)
+      go false true e = absurd (cc)
+      go false false e = absurd (cc)
 
   kind_clear : kind_of (take 16 (drop from s)) ≡ Clear → each (λ b. not (eqb b 0)) (take 16 (drop from s)) ≡ true
   kind_clear e = go (each (λ b. eqb b 0) (take 16 (drop from s))) (each (λ b. not (eqb b 0)) (take 16 (drop from s))) e
     where
       go : (x y : Bool) → (if x then Zeros else if y then Clear else Mixed) ≡ Clear → y ≡ true
-      go true y e = let z : ◌≡◌ {A = ℕ} 0 1 = cc in absurd (omega arith)
+      go true y e = absurd (cc)
       go false true e = refl
-      go false false e = let z : ◌≡◌ {A = ℕ} 0 1 = cc in absurd (omega arith)
+      go false false e = absurd (cc)
 
   module _ (d : List ℕ) (at : ℕ) (k : at + 16 ≤ length d) where
     -- the same that `clear16` and `all16` would say

@@ -1,7 +1,9 @@
 -- A buffer's front XORed, byte by byte. Assumes nothing.
-use mathlib.Core.Path.{◌≡◌, refl, ap}
+use mathlib.Core.Path.{◌≡◌, refl, ap, ◌∙◌}
 use mathlib.Core.List.{List, [], ◌∷◌, ◌++◌}
-use Prim.Native.Nat.{ℕ, zero, suc, ◌+◌, ◌≤◌, ◌<◌}
+use Prim.Native.Nat.{ℕ, zero, suc, ◌+◌, ◌≤◌, ◌<◌, min}
+use native.Mathlib.Decide.{dec_lt}
+use native.Mathlib.Omega.{arith}
 use native.Mathlib.Nat.{not-suc-le-zero, le_of_suc-le-suc}
 use native.Mathlib.Numerals.{add-one}
 use lib.Bits.{bit_xor}
@@ -37,6 +39,19 @@ masked-end s n [] h = go n
     go (suc n) = refl
 masked-end s zero (b ∷ d) h = absurd (not-suc-le-zero h)
 masked-end s (suc n) (b ∷ d) h = ap (λ (t : List ℕ). bit_xor b s ∷ t) (masked-end s n d (le_of_suc-le-suc h))
+
+-- so many of them as there are
+pub masked-min : (s n : ℕ) (d : List ℕ) (e : ℕ) → e ≡ min n (length d) → masked_front s e d ≡ masked_front s n d
+masked-min s n d e q =
+    elim (dec_lt n (length d)) [
+      | yes h ↦ let all : e ≡ n = omega arith in ap (λ (k : ℕ). masked_front s k d) all
+      | no h ↦ let all : e ≡ length d = omega arith in ap (λ (k : ℕ). masked_front s k d) all ∙ masked-end s n d (omega arith)
+    ]
+
+-- a front that was XORed by itself
+pub masked-front : (s n : ℕ) (d : List ℕ) (e : ℕ) (t : List ℕ) → e ≡ min n (length d) → t ≡ masked s (take e d) → t ++ drop e d ≡ masked_front s n d
+unfolding masked_front
+masked-front s n d e t q r = ap (λ (f : List ℕ). f ++ drop e d) r ∙ masked-min s n d e q
 
 -- all of it
 pub masked-all : (s : ℕ) (d : List ℕ) → masked_front s (length d) d ≡ masked s d

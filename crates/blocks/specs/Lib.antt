@@ -1,1 +1,3 @@
 pub mod Blocks
+-- for the private functions
+pub mod Helpers

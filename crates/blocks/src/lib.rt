@@ -1,13 +1,15 @@
-//! Bytes of a buffer many at a time. A loop of sixteen turns with no way out becomes one wide instruction.
+//! Bytes of a buffer many at a time. Sixteen that are read or tested with no way out between them take one wide instruction.
 //! Every call is total: where sixteen bytes do not stand, a test is false and a copy changes nothing.
 #![tactic(auto)]
 
-ghost use Rattle.std.specs.Prelude.{◌≡◌, ◌+◌, ◌≤◌, length, take, drop, not, eqb};
+ghost use Rattle.std.specs.Prelude.{◌≡◌, ◌+◌, ◌≤◌, ℕ, Bool, length};
 ghost use Rattle.std.proofs.Math.Seq.{paste};
-ghost use Rattle.blocks.specs.Blocks.{stands, each, flag, is_clear, is_all, copied, taken_of, filled, masked_front};
+ghost use Rattle.blocks.specs.Blocks.{stands, each, is_clear, is_all, copied, taken_of, filled, kind_of, masked_front};
+ghost use Rattle.cobs.specs.Code.{masked};
+ghost use Rattle.blocks.specs.Helpers.{block_at, moved, Gives};
 
 /// What sixteen bytes are: not there, none of them zero, all of them zero, or some of each.
-#[derive(Clone, Copy)]
+#[derive(Clone, Copy, Debug, PartialEq, Eq)]
 pub enum Taken {
     Nothing,
     Clear,
@@ -19,133 +21,122 @@ pub enum Taken {
 fn stand(n: usize, at: usize) -> bool
     ensures { result ≡ stands n at }
 {
-    if n < 16 {
-        return false;
-    }
-    at <= n - 16
+    16 <= n && at <= n - 16
 }
 
-fn read16(s: &[u8], at: usize) -> [u8; 16]
-    requires { at + 16 ≤ length s.now }
-    ensures { result ≡ take 16 (drop at s.now) }
+// The sixteen bytes at `at`, where they stand.
+fn read16(s: &[u8], at: usize) -> Option<[u8; 16]>
+    ensures { result ≡ block_at s.now at }
 {
-    let mut block = [0u8; 16];
-    let mut k = 0;
-    while k < 16 {
-        block[k] = s[at + k];
-        k += 1;
+    if !stand(s.len(), at) {
+        return None;
     }
-    block
+    s[at..at + 16].first_chunk().copied()
 }
 
+// By index: `dest[at..at + 16].copy_from_slice(&block)` first tests whether the two overlap, and the one-shot encoder takes 6.11
+// instructions a byte of particle records for 5.43; of what is written through `first_chunk_mut` the proof finds no element.
 fn write16(dest: &mut [u8], at: usize, block: [u8; 16])
     requires { at + 16 ≤ length dest.old }
     ensures { dest.new ≡ paste dest.old at block 16 }
 {
-    let mut k = 0;
-    while k < 16 {
+    for k in 0..16 {
         dest[at + k] = block[k];
-        k += 1;
     }
 }
 
-// 1 for a zero. A flag that is joined to others, and not a branch, is what the compiler takes sixteen at a time.
-fn zero_flag(b: u8) -> u8
-    ensures { result ≡ flag (not (eqb b 0)) }
-{
-    if b == 0 { 1 } else { 0 }
-}
-
-// 1 for a byte that is not v.
-fn unlike_flag(b: u8, v: u8) -> u8
-    ensures { result ≡ flag (eqb b v) }
-{
-    if b == v { 0 } else { 1 }
-}
-
-// 1 if a zero is among the sixteen.
-fn any_zero(block: [u8; 16]) -> u8
-    ensures { result ≡ flag (each (λ b. not (eqb b 0)) block) }
-{
-    let mut found = 0;
-    let mut k = 0;
-    while k < 16 {
-        found = found | zero_flag(block[k]);
-        k += 1;
-    }
-    found
-}
-
-// 1 if a byte that is not v is among them.
-fn any_unlike(block: [u8; 16], v: u8) -> u8
-    ensures { result ≡ flag (each (λ b. eqb b v) block) }
-{
-    let mut found = 0;
-    let mut k = 0;
-    while k < 16 {
-        found = found | unlike_flag(block[k], v);
-        k += 1;
-    }
-    found
-}
-
-/// Sixteen bytes stand at `at`, and none is zero.
-pub fn clear16(s: &[u8], at: usize) -> bool
-    ensures { result ≡ is_clear s.now at }
-{
-    if !stand(s.len(), at) {
-        return false;
-    }
-    any_zero(read16(s, at)) == 0
-}
-
-/// Sixteen bytes stand at `at`, and each is v.
-pub fn all16(s: &[u8], at: usize, v: u8) -> bool
-    ensures { result ≡ is_all v s.now at }
-{
-    if !stand(s.len(), at) {
-        return false;
-    }
-    any_unlike(read16(s, at), v) == 0
-}
-
-/// Sixteen bytes of src from `from` on are copied to `at`, where they stand in both; tells what they are. All are read before
-/// one is written: the compiler does not know that the two lie apart.
-pub fn take16(dest: &mut [u8], at: usize, src: &[u8], from: usize) -> Taken
-    ensures answer { result ≡ taken_of dest.old at src.now from }
+// Sixteen bytes of src copied, where they stand in both, and answered. All are read before one is written: the compiler does not
+// know that the two lie apart.
+fn moved(dest: &mut [u8], at: usize, src: &[u8], from: usize) -> Option<[u8; 16]>
+    ensures answer { result ≡ moved dest.old at src.now from }
     ensures memory { dest.new ≡ copied dest.old at src.now from }
 {
+    let block = read16(src, from)?;
     if !stand(dest.len(), at) {
-        return Taken::Nothing;
+        return None;
     }
-    if !stand(src.len(), from) {
-        return Taken::Nothing;
-    }
-    let block = read16(src, from);
     write16(dest, at, block);
-    let zero = any_zero(block);
-    let other = any_unlike(block, 0);
-    if other == 0 {
-        return Taken::Zeros;
+    Some(block)
+}
+
+// Whether each byte passes a test. The tests are all made, and joined with no branch, which the compiler takes sixteen at a time:
+// the iterator's `all` stops at the first that fails.
+fn all<F: Fn(u8) -> bool>(block: [u8; 16], test: F) -> bool
+    requires { F.IsAlwaysCallable test }
+    ensures { (p : ℕ → Bool) → Gives (F.post test) p → result ≡ each p block }
+{
+    let mut held = true;
+    for b in block {
+        held &= test(b);
     }
-    if zero == 0 {
+    held
+}
+
+// What sixteen bytes are that stand.
+fn kind(block: [u8; 16]) -> Taken
+    ensures { result ≡ kind_of block }
+{
+    let clear = all(block, |b| b != 0);
+    if all(block, |b| b == 0) {
+        Taken::Zeros
+    } else if clear {
         Taken::Clear
     } else {
         Taken::Mixed
     }
 }
 
-/// The same copy alone. It does not call `take16`: a function with one caller is put in its place, and each copy has one.
+// Each byte XORed.
+fn xor(s: &mut [u8], v: u8)
+    ensures { s.new ≡ masked v s.old }
+{
+    for b in s.iter_mut() {
+        *b ^= v;
+    }
+}
+
+/// Sixteen bytes stand at `at`, and none is zero.
+pub fn clear16(s: &[u8], at: usize) -> bool
+    ensures { result ≡ is_clear s.now at }
+{
+    let Some(block) = read16(s, at) else {
+        return false;
+    };
+    all(block, |b| b != 0)
+}
+
+/// Sixteen bytes stand at `at`, and each is v.
+pub fn all16(s: &[u8], at: usize, v: u8) -> bool
+    ensures { result ≡ is_all v s.now at }
+{
+    let Some(block) = read16(s, at) else {
+        return false;
+    };
+    all(block, |b| b == v)
+}
+
+/// Sixteen bytes of src from `from` on are copied to `at`, where they stand in both; tells what they are.
+pub fn take16(dest: &mut [u8], at: usize, src: &[u8], from: usize) -> Taken
+    ensures answer { result ≡ taken_of dest.old at src.now from }
+    ensures memory { dest.new ≡ copied dest.old at src.now from }
+{
+    match moved(dest, at, src, from) {
+        Some(block) => kind(block),
+        None => Taken::Nothing,
+    }
+}
+
+/// The same copy alone. It does not call `moved`: a function with one caller is put in its place, and each copy has one. Through
+/// `moved` the receiver takes 603 instructions a record for 359.
 pub fn copy16(dest: &mut [u8], at: usize, src: &[u8], from: usize)
     ensures { dest.new ≡ copied dest.old at src.now from }
 {
     if !stand(dest.len(), at) {
         return;
     }
-    if !stand(src.len(), from) {
+    let Some(block) = read16(src, from) else {
         return;
-    }
-    let block = read16(src, from);
+    };
     write16(dest, at, block);
 }
 
@@ -153,21 +144,15 @@ pub fn copy16(dest: &mut [u8], at: usize, src: &[u8], from: usize)
 pub fn fill16(dest: &mut [u8], at: usize, v: u8)
     ensures { dest.new ≡ filled dest.old at v }
 {
-    if !stand(dest.len(), at) {
-        return;
+    if stand(dest.len(), at) {
+        dest[at..at + 16].fill(v);
     }
-    let block = [v; 16];
-    write16(dest, at, block);
 }
 
 /// The first n bytes, or all if there are fewer, XORed with the sentinel.
 pub fn mask(buf: &mut [u8], n: usize, sentinel: u8)
     ensures { buf.new ≡ masked_front sentinel n buf.old }
 {
-    let end = if n < buf.len() { n } else { buf.len() };
-    let mut i = 0;
-    while i < end {
-        buf[i] = buf[i] ^ sentinel;
-        i += 1;
-    }
+    let end = n.min(buf.len());
+    xor(&mut buf[..end], sentinel);
 }

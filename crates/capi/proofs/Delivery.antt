@@ -1,5 +1,6 @@
 -- Demand 3 of the loop over the C calls: each call is `receive` on the states that the numbers name, and leaves the numbers of
 -- the states that it left. Assumes nothing.
+use Rattle.std.specs.Prelude.{Option, Some, None}
 use mathlib.Core.Path.{◌≡◌, refl, ap, ◌∙◌}
 use mathlib.Core.Bool.{true, false}
 use mathlib.Core.List.{List, [], ◌∷◌}
@@ -15,7 +16,6 @@ use Rattle.dec.proofs.Cases.{by_bool}
 use Rattle.batch.specs.State.{stand_by, stand_told, stands_told, opened}
 use Rattle.batch.proofs.Good.{open-good}
 use Rattle.batch.specs.declared.Close.{Close}
-use Rattle.batch.specs.declared.Close.TheVariants.{Not, Taken}
 use Rattle.wire.specs.Again.{joined}
 use Rattle.wire.specs.Loop as loop
 use Rattle.wire.specs.Loop.{Side, called, seen}
@@ -76,10 +76,10 @@ receive_like l s h p b =
     })
 
 -- how a batch stands is never a BadState by itself
-stands-told : (marked sum : ℕ) (c : Close) → eqb (stand_by marked sum c).number 6 ≡ false
-stands-told m t Not = refl
-stands-told m t (Taken count total) =
-    by_bool (ltb m count) (λ q. rw q refl) (λ q. by_bool (eqb t total) (λ p. rw (q, p) refl) (λ p. rw (q, p) refl))
+stands-told : (marked sum : ℕ) (c : Option Close) → eqb (stand_by marked sum c).number 6 ≡ false
+stands-told m t None = refl
+stands-told m t (Some c) =
+    by_bool (ltb m c.count) (λ q. rw q refl) (λ q. by_bool (eqb t c.total) (λ p. rw (q, p) refl) (λ p. rw (q, p) refl))
 
 shown_like : (l : Lent) (s : Side End) → Like l s → shows l ≡ accepting.shows s.state
 unfolding state_told state_total stands_told stand_told

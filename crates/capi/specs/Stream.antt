@@ -1,14 +1,14 @@
 -- The workstation's calls as C has them: `receive` and `stands` on the states that numbers name. Numbers that name none
 -- are BadState, and then nothing changes. Assumes nothing.
-use Rattle.std.specs.Prelude.{true, List, ℕ, eqb, length, if◌then◌else◌}
+use Rattle.std.specs.Prelude.{List, Option, Some, None, ℕ, eqb, length, if◌then◌else◌}
 use Rattle.cobs.specs.Answers.{Told, done, bad_state}
 use Rattle.batch.specs.State.{stands_told}
 use Rattle.wire.specs.Again.{Received}
 use Rattle.wire.specs.Loop.{Side, received}
 use Rattle.wire.specs.Receive.{End, accepting}
 use Rattle.wire.specs.Call.{start, calls, wire_of}
-use Rattle.numbers.specs.Numbers.{numbers_of, wire_in, names, unnamed, written_to, read_back}
-use Rattle.numbers.specs.declared.Found.{Found}
+use Rattle.numbers.specs.Numbers.{numbers_of, wire_in, names, written_to, read_back}
+use Rattle.wire.specs.declared.Wire.{Wire}
 
 -- ---- open
 
@@ -21,7 +21,7 @@ unfoldable pub open_state : (ns : List ℕ) (batch n : ℕ) → List ℕ
 open_state ns batch n = written_to ns (start batch n)
 
 -- What they name.
-unfoldable pub open_found : (ns : List ℕ) (batch n : ℕ) → Found
+unfoldable pub open_found : (ns : List ℕ) (batch n : ℕ) → Option Wire
 open_found ns batch n = read_back ns (start batch n)
 
 -- ---- receive
@@ -43,8 +43,8 @@ unfoldable pub receive_state : (ns buffer table piece : List ℕ) → List ℕ
 receive_state ns buffer table piece = if names ns then numbers_of (wire_of (call ns buffer table piece).side) else ns
 
 -- What the numbers name afterwards: the states that the call left. Numbers that named none still name none.
-unfoldable pub receive_found : (ns buffer table piece : List ℕ) → Found
-receive_found ns buffer table piece = if names ns then record { named = true; wire = wire_of (call ns buffer table piece).side } else unnamed
+unfoldable pub receive_found : (ns buffer table piece : List ℕ) → Option Wire
+receive_found ns buffer table piece = if names ns then Some (wire_of (call ns buffer table piece).side) else None
 
 -- The bytes to decode into, as it left them.
 unfoldable pub receive_buffer : (ns buffer table piece : List ℕ) → List ℕ

@@ -5,7 +5,7 @@ ghost use Rattle.record.specs.Frame.{frame_told, frame_dest};
 ghost use Rattle.numbers.specs.Numbers.{read_of};
 ghost use Rattle.capi.specs.Stream.{open_told, open_state, open_found, receive_told, receive_consumed, receive_state, receive_found, receive_buffer, receive_table, state_told, state_total};
 
-use crate::told::{frame, put, received, standing};
+use crate::told::{put, put_one};
 use wire::Wire;
 
 /// The encoding of a message of 1 to 15 records, and one zero.
@@ -18,7 +18,7 @@ pub fn laksovuth_write_frame(
     ensures answer { tell result size.new at.new ≡ frame_told message.now (length dest.old) }
     ensures memory { dest.new ≡ frame_dest message.now dest.old }
 {
-    put(frame(record::frame::write_frame(message, dest)), size, at)
+    put(record::frame::write_frame(message, dest), size, at)
 }
 
 /// How many numbers a receiving side keeps.
@@ -59,18 +59,16 @@ pub fn laksovuth_receive(
     ensures decoded { buffer.new ≡ receive_buffer state.old buffer.old table.old piece.now }
     ensures stored { table.new ≡ receive_table state.old buffer.old table.old piece.now }
 {
-    let found = numbers::read(state);
-    if !found.named {
+    let Some(states) = numbers::read(state) else {
         *value = 0;
         *at = 0;
         *consumed = 0;
         return 6;
-    }
-    let receipt = wire::receive(found.wire, buffer, table, piece);
-    let answer = receipt.answer;
+    };
+    let receipt = wire::receive(states, buffer, table, piece);
     numbers::write(receipt.next, state);
     *consumed = receipt.consumed;
-    put(received(answer), value, at)
+    put(receipt.answer, value, at)
 }
 
 /// How the batch stands.
@@ -79,14 +77,12 @@ pub fn laksovuth_stands(state: &[u64], table: &[u8], missing: &mut usize, total:
     ensures total { total.new ≡ state_total state.now (length table.now) }
 {
     *total = 0;
-    let found = numbers::read(state);
-    if !found.named {
+    let Some(states) = numbers::read(state) else {
         *missing = 0;
         return 6;
-    }
-    let wire = found.wire;
-    let receiver = wire.receiver;
-    let number = standing(batch::stands(receiver, table), missing);
+    };
+    let receiver = states.receiver;
+    let number = put_one(batch::stands(receiver, table), missing);
     if number != 6 {
         *total = receiver.total as u64;
     }

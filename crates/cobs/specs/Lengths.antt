@@ -1,15 +1,14 @@
 -- What the two length functions answer. Assumes nothing.
-use Rattle.std.specs.Prelude.{ℕ, if◌then◌else◌}
+use Rattle.std.specs.Prelude.{ℕ, Result, Ok, Err, if◌then◌else◌}
 use Rattle.cobs.specs.Words.{◌exceeds◌}
 use Rattle.cobs.specs.Code.{overhead, max_length}
 use Rattle.cobs.specs.Answers.{Told, done, too_long, longest}
-use Rattle.cobs.specs.declared.Length.{Length}
-use Rattle.cobs.specs.declared.Length.TheVariants.{Bytes, TooLong}
+use Rattle.cobs.specs.declared.refusals.TooLong.{TooLong}
 
 -- What both calls answer, told.
-abbrev pub told : Length → Told
-told (Bytes n) = done n 0
-told TooLong = too_long
+abbrev pub told : Result ℕ TooLong → Told
+told (Ok n) = done n 0
+told (Err e) = too_long
 
 -- TooLong: a length asked about, over 1,048,576 bytes.
 unfoldable pub overhead_told : ℕ → Told

@@ -1,5 +1,5 @@
 -- The state alone over a run of bytes, as if the room had no end: over a body and its zero it gives what `read` says. Assumes nothing.
-use Rattle.std.specs.Prelude.{if◌then◌else◌}
+use Rattle.std.specs.Prelude.{if◌then◌else◌, Ok, Err}
 use mathlib.Core.Path.{◌≡◌, refl, sym, ap, ap₂, ◌∙◌}
 use mathlib.Core.Bool.{Bool, true, false}
 use mathlib.Core.List.{List, [], ◌∷◌, ◌++◌, append-nil, append_assoc}
@@ -13,11 +13,10 @@ use Rattle.cobs.specs.Code.{NoZero, Reading, zero_after, read}
 use Rattle.cobs.proofs.Runs.{no_zero_front, no_zero_back}
 use Rattle.cobs.proofs.Reading.{by_codes, read_short, read-last, read_more}
 use Rattle.dec.specs.Helpers.{group}
-use Rattle.dec.specs.State.{stepped}
+use Rattle.dec.specs.State.{Given, stepped}
 use Rattle.dec.specs.declared.state.DecoderState.{DecoderState}
 use Rattle.dec.specs.declared.state.DecoderState.TheVariants.{Idle, Grab, GrabChain}
-use Rattle.dec.specs.declared.state.DecodeResult.{DecodeResult}
-use Rattle.dec.specs.declared.state.DecodeResult.TheVariants.{NoData, DataStart, DataComplete, DataContinue, InvalidFrame}
+use Rattle.dec.specs.declared.state.DecodeResult.TheVariants.{NoData, DataStart, DataComplete, DataContinue}
 use Rattle.dec.proofs.Steps.{opened-group}
 
 -- The run goes on; a zero ended its frame; a zero was early.
@@ -35,12 +34,12 @@ pub record Run : Type 0 where
 abbrev pub after : List ℕ → Run → Run
 after s r = record { end = r.end; out = s ++ r.out; took = suc r.took; state = r.state }
 
-abbrev pub onward : DecodeResult → Run → Run
-onward NoData r = after [] r
-onward DataStart r = after [] r
-onward (DataContinue b) r = after (b ∷ []) r
-onward DataComplete r = record { end = whole; out = []; took = 1; state = Idle }
-onward InvalidFrame r = record { end = early; out = []; took = 1; state = Idle }
+abbrev pub onward : Given → Run → Run
+onward (Ok NoData) r = after [] r
+onward (Ok DataStart) r = after [] r
+onward (Ok (DataContinue b)) r = after (b ∷ []) r
+onward (Ok DataComplete) r = record { end = whole; out = []; took = 1; state = Idle }
+onward (Err e) r = record { end = early; out = []; took = 1; state = Idle }
 
 unfoldable pub run : DecoderState → List ℕ → Run
 run s [] = record { end = going; out = []; took = 0; state = s }

@@ -1,4 +1,5 @@
 -- A piece that stops: what its outcome has of the byte that stopped it, and how many bytes it took. Assumes nothing.
+use Rattle.std.specs.Prelude.{Ok, Err}
 use mathlib.Core.Path.{◌≡◌, refl, sym, ap, ◌∙◌}
 use mathlib.Core.Bool.{true, false, false≢true}
 use mathlib.Core.List.{List, [], ◌∷◌}
@@ -6,11 +7,10 @@ use Prim.Native.Nat.{ℕ, zero, suc, ◌≤◌, ◌<◌}
 use native.Mathlib.Omega.{arith}
 use lib.Dec.{ltb}
 use lib.ListN.{length, take}
-use Rattle.dec.specs.State.{stepped}
+use Rattle.dec.specs.State.{Given, stepped}
 use Rattle.dec.specs.Stream.{skipping, Outcome, is_more, result_outcome, byte_outcome, further, piece_outcome}
 use Rattle.dec.specs.declared.state.DecoderState.{DecoderState}
-use Rattle.dec.specs.declared.state.DecodeResult.{DecodeResult}
-use Rattle.dec.specs.declared.state.DecodeResult.TheVariants.{NoData, DataStart, DataComplete, DataContinue, InvalidFrame}
+use Rattle.dec.specs.declared.state.DecodeResult.TheVariants.{NoData, DataStart, DataComplete, DataContinue}
 use Rattle.dec.specs.declared.stream.CobsDecoder.{CobsDecoder}
 use Rattle.dec.proofs.Cases.{by_bool}
 use Rattle.dec.proofs.Pieces.{further-keeps, further-counts, further-more, further-next, piece_goes, piece_stops, byte-goes}
@@ -28,13 +28,13 @@ rests_further : (o : Outcome) → Rests o → Rests (further 1 o)
 rests_further o w =
     record { place = rw (further-next 1 o) w.place; small = λ e. rw (further-next 1 o) (w.small (sym (further-number 1 o) ∙ e)) }
 
-result_rests : (place room : ℕ) (s : DecoderState) (r : DecodeResult) → is_more (result_outcome place room s r) ≡ false → Rests (result_outcome place room s r)
-result_rests place room s NoData e = absurd (false≢true (sym e))
-result_rests place room s DataStart e = absurd (false≢true (sym e))
-result_rests place room s DataComplete e = record { place = refl; small = λ q. absurd (omega (arith, q)) }
-result_rests place room s (DataContinue x) e =
+result_rests : (place room : ℕ) (s : DecoderState) (r : Given) → is_more (result_outcome place room s r) ≡ false → Rests (result_outcome place room s r)
+result_rests place room s (Ok NoData) e = absurd (false≢true (sym e))
+result_rests place room s (Ok DataStart) e = absurd (false≢true (sym e))
+result_rests place room s (Ok DataComplete) e = record { place = refl; small = λ q. absurd (omega (arith, q)) }
+result_rests place room s (Ok (DataContinue x)) e =
     by_bool (ltb place room) (λ q. absurd (false≢true (sym (rw q at e)))) (λ q. rw q (record { place = refl; small = λ _. refl }))
-result_rests place room s InvalidFrame e = record { place = refl; small = λ q. absurd (omega (arith, q)) }
+result_rests place room s (Err _) e = record { place = refl; small = λ q. absurd (omega (arith, q)) }
 
 byte_rests : (d : CobsDecoder) (room b : ℕ) → is_more (byte_outcome d room b) ≡ false → Rests (byte_outcome d room b)
 unfolding byte_outcome

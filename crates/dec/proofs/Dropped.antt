@@ -1,4 +1,5 @@
 -- While skipping, everything through the next zero is dropped; and an early zero is refused. Assumes nothing.
+use Rattle.std.specs.Prelude.{Err}
 use mathlib.Core.Path.{◌≡◌, refl, sym, ap, ◌∙◌}
 use mathlib.Core.Bool.{false, false≢true}
 use mathlib.Core.List.{List, [], ◌∷◌, ◌++◌}
@@ -15,7 +16,6 @@ use Rattle.dec.specs.Stream.{new, skipping, is_idle, bad, Outcome, goes, stops, 
 use Rattle.dec.specs.Sentences.{Drops}
 use Rattle.dec.specs.declared.state.DecoderState.{DecoderState}
 use Rattle.dec.specs.declared.state.DecoderState.TheVariants.{Idle, Grab, GrabChain}
-use Rattle.dec.specs.declared.state.DecodeResult.TheVariants.{InvalidFrame}
 use Rattle.dec.specs.declared.stream.CobsDecoder.{CobsDecoder}
 use Rattle.dec.proofs.Cases.{by_bool}
 use Rattle.dec.proofs.Good.{good_of, new-good, skipping-good}
@@ -80,7 +80,7 @@ skipping_drops room =
 
 -- ---- an early zero
 
-is_early : (s : DecoderState) → given_told s 0 ≡ invalid_frame 0 0 → ((stepped s 0).result ≡ InvalidFrame) × (is_idle s ≡ false)
+is_early : (s : DecoderState) → given_told s 0 ≡ invalid_frame 0 0 → ((stepped s 0).result ≡ Err (record {})) × (is_idle s ≡ false)
 is_early Idle e = let z : ◌≡◌ {A = ℕ} 0 2 = ap (λ t. t.number) e in absurd (omega arith)
 is_early (Grab zero) e = let z : ◌≡◌ {A = ℕ} 0 2 = ap (λ t. t.number) e in absurd (omega arith)
 is_early (Grab (suc left)) e = (refl, refl)

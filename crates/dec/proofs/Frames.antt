@@ -1,6 +1,6 @@
 -- The streaming decoder, new, over a body and its zero: the answer is `read`'s, and an encoding is decoded to its message.
 -- Assumes nothing.
-use Rattle.std.specs.Prelude.{if◌then◌else◌}
+use Rattle.std.specs.Prelude.{if◌then◌else◌, Ok, Err}
 use mathlib.Core.Path.{◌≡◌, refl, sym, ap, ◌∙◌, subst}
 use mathlib.Core.Bool.{Bool, true, false}
 use mathlib.Core.List.{List, [], ◌∷◌, ◌++◌, append-nil}
@@ -15,12 +15,11 @@ use Rattle.cobs.specs.Code.{NoZero, encode, read, over}
 use Rattle.cobs.specs.Answers.{done, invalid_frame, target_buf_too_small}
 use Rattle.cobs.proofs.Encoding.{encode_no_zero, encode_nonempty}
 use Rattle.cobs.proofs.Reading.{read-encode}
-use Rattle.dec.specs.State.{stepped}
+use Rattle.dec.specs.State.{Given, stepped}
 use Rattle.dec.specs.Stream.{at, new, skipping, Outcome, goes, stops, is_more, result_outcome, byte_outcome, result_dest, byte_dest, further, joined, piece_outcome, piece_dest, push_outcome, push_dest}
 use Rattle.dec.specs.declared.state.DecoderState.{DecoderState}
 use Rattle.dec.specs.declared.state.DecoderState.TheVariants.{Idle}
-use Rattle.dec.specs.declared.state.DecodeResult.{DecodeResult}
-use Rattle.dec.specs.declared.state.DecodeResult.TheVariants.{NoData, DataStart, DataComplete, DataContinue, InvalidFrame}
+use Rattle.dec.specs.declared.state.DecodeResult.TheVariants.{NoData, DataStart, DataComplete, DataContinue}
 use Rattle.dec.proofs.Cases.{by_bool}
 use Rattle.dec.proofs.Good.{new-good}
 use Rattle.dec.proofs.Pieces.{push_piece, push_dest_piece}
@@ -53,18 +52,18 @@ loud whole p b r = rw (one_more r.took, suc-add p (length r.out), add-suc p (len
 loud early p b r = rw (one_more r.took, suc-add p (length r.out), add-suc p (length r.out))
 
 -- a byte that gives e, and the rest from state s on
-abbrev Rest : (room p : ℕ) → DecodeResult → DecoderState → List ℕ → Outcome
+abbrev Rest : (room p : ℕ) → Given → DecoderState → List ℕ → Outcome
 Rest room p e s u = joined (result_outcome p room s e) 1 (piece_outcome (result_outcome p room s e).next room u)
 
-fits-step : (room p : ℕ) (e : DecodeResult) (s : DecoderState) (u : List ℕ)
+fits-step : (room p : ℕ) (e : Given) (s : DecoderState) (u : List ℕ)
     → ((p : ℕ) → p + length (run s u).out ≤ room → piece_outcome (at p s) room u ≡ ran p (run s u))
     → p + length (onward e (run s u)).out ≤ room → Rest room p e s u ≡ ran p (onward e (run s u))
 unfolding joined
-fits-step room p NoData s u ih h = rw (ih p h) (quiet (run s u).end p (run s u))
-fits-step room p DataStart s u ih h = rw (ih p h) (quiet (run s u).end p (run s u))
-fits-step room p DataComplete s u ih h = rw (add-zero p)
-fits-step room p InvalidFrame s u ih h = rw (add-zero p)
-fits-step room p (DataContinue b) s u ih h =
+fits-step room p (Ok NoData) s u ih h = rw (ih p h) (quiet (run s u).end p (run s u))
+fits-step room p (Ok DataStart) s u ih h = rw (ih p h) (quiet (run s u).end p (run s u))
+fits-step room p (Ok DataComplete) s u ih h = rw (add-zero p)
+fits-step room p (Err _) s u ih h = rw (add-zero p)
+fits-step room p (Ok (DataContinue b)) s u ih h =
     let l : ltb p room ≡ true = lt-ltb p room (omega arith) in
     rw (l, ih (suc p) (omega arith)) (loud (run s u).end p b (run s u))
 
@@ -82,15 +81,15 @@ small-on : (o : Outcome) → Small o → Small (further 1 o)
 unfolding further
 small-on o w = (1 + w.0, rw w.1)
 
-small-step : (room p : ℕ) (e : DecodeResult) (s : DecoderState) (u : List ℕ)
+small-step : (room p : ℕ) (e : Given) (s : DecoderState) (u : List ℕ)
     → ((p : ℕ) → p ≤ room → room < p + length (run s u).out → Small (piece_outcome (at p s) room u))
     → p ≤ room → room < p + length (onward e (run s u)).out → Small (Rest room p e s u)
 unfolding joined
-small-step room p NoData s u ih l h = small-on (piece_outcome (at p s) room u) (ih p l h)
-small-step room p DataStart s u ih l h = small-on (piece_outcome (at p s) room u) (ih p l h)
-small-step room p DataComplete s u ih l h = absurd (omega arith)
-small-step room p InvalidFrame s u ih l h = absurd (omega arith)
-small-step room p (DataContinue b) s u ih l h =
+small-step room p (Ok NoData) s u ih l h = small-on (piece_outcome (at p s) room u) (ih p l h)
+small-step room p (Ok DataStart) s u ih l h = small-on (piece_outcome (at p s) room u) (ih p l h)
+small-step room p (Ok DataComplete) s u ih l h = absurd (omega arith)
+small-step room p (Err _) s u ih l h = absurd (omega arith)
+small-step room p (Ok (DataContinue b)) s u ih l h =
     by_bool (ltb p room)
     (λ q. rw q (small-on (piece_outcome (at (suc p) s) room u) (ih (suc p) (ltb-true p room q) (omega arith))))
     (λ q. rw q (1, refl))
@@ -126,15 +125,15 @@ over_at-out zero (b ∷ s) (x ∷ d) h = absurd (not-suc-le-zero h)
 over_at-out (suc p) s [] h = refl
 over_at-out (suc p) s (x ∷ d) h = ap (λ (t : List ℕ). x ∷ t) (over_at-out p s d (le_of_suc-le-suc h))
 
-dest-step : (room p : ℕ) (e : DecodeResult) (s : DecoderState) (u d : List ℕ)
+dest-step : (room p : ℕ) (e : Given) (s : DecoderState) (u d : List ℕ)
     → ((p : ℕ) (d : List ℕ) → length d ≡ room → piece_dest (at p s) room u d ≡ over_at p (run s u).out d) → length d ≡ room
     → (if is_more (result_outcome p room s e) then piece_dest (result_outcome p room s e).next room u (result_dest p e d) else result_dest p e d)
     ≡ over_at p (onward e (run s u)).out d
-dest-step room p NoData s u d ih l = ih p d l
-dest-step room p DataStart s u d ih l = ih p d l
-dest-step room p DataComplete s u d ih l = sym (over_at-none p d)
-dest-step room p InvalidFrame s u d ih l = sym (over_at-none p d)
-dest-step room p (DataContinue b) s u d ih l =
+dest-step room p (Ok NoData) s u d ih l = ih p d l
+dest-step room p (Ok DataStart) s u d ih l = ih p d l
+dest-step room p (Ok DataComplete) s u d ih l = sym (over_at-none p d)
+dest-step room p (Err _) s u d ih l = sym (over_at-none p d)
+dest-step room p (Ok (DataContinue b)) s u d ih l =
     by_bool (ltb p room)
     (λ q. rw q (ih (suc p) (set d p b) (length-set d p b ∙ l) ∙ over_at-set p b (run s u).out d))
     (λ q.

@@ -1,5 +1,5 @@
 -- Good states: what the test of BadState comes to, and that no call leads from a good state to a bad one. Assumes nothing.
-use Rattle.std.specs.Prelude.{if◌then◌else◌}
+use Rattle.std.specs.Prelude.{if◌then◌else◌, Ok}
 use mathlib.Core.Path.{◌≡◌, refl, sym, ◌∙◌}
 use mathlib.Core.Bool.{Bool, true, false, not, ◌&&◌, ◌||◌, false≢true}
 use mathlib.Core.List.{List, [], ◌∷◌}
@@ -38,14 +38,22 @@ module _ (d : CobsDecoder) (room : ℕ) where
   unfolding bad
   bad-beyond h = rw (lt-ltb room d.place h)
 
-  module _ (h : d.place ≤ room) (i : Bool) (e : i ≡ is_idle d.state) where
-    pub bad-idle : i ≡ true → ltb 0 d.place ≡ bad d room
+  module _ (h : d.place ≤ room) where
+    pub bad-idle : d.state ≡ Idle → ltb 0 d.place ≡ bad d room
     unfolding bad
-    bad-idle q = rw (le-ltb room d.place h, ← e, q) (test_idle (ltb 0 d.place) d.skip)
+    bad-idle q = rw (le-ltb room d.place h, q) (test_idle (ltb 0 d.place) d.skip)
 
-    pub bad-open : i ≡ false → d.skip ≡ bad d room
+    by_open : is_idle d.state ≡ false → d.skip ≡ bad d room
     unfolding bad
-    bad-open q = rw (le-ltb room d.place h, ← e, q) (test_open (ltb 0 d.place) d.skip)
+    by_open q = rw (le-ltb room d.place h, q) (test_open (ltb 0 d.place) d.skip)
+
+    pub bad-open : (d.state ≡ Idle → ⊥) → d.skip ≡ bad d room
+    bad-open n = go d.state refl
+      where
+        go : (s : DecoderState) → d.state ≡ s → d.skip ≡ bad d room
+        go Idle e = absurd (n e)
+        go (Grab left) e = by_open (rw e)
+        go (GrabChain left) e = by_open (rw e)
 
 -- ---- a good state
 
@@ -115,7 +123,7 @@ inside-opened c = by_bool (eqb c 255) (λ e. rw e) (λ e. rw e)
 abbrev After : (place room : ℕ) → Stepped → Type 0
 After place room t = Good (result_outcome place room t.state t.result).next room
 
-good-put : (place room : ℕ) (s : DecoderState) (x : ℕ) → Inside s → After place room (record { state = s; result = DataContinue x })
+good-put : (place room : ℕ) (s : DecoderState) (x : ℕ) → Inside s → After place room (record { state = s; result = Ok (DataContinue x) })
 good-put place room s x e =
     by_bool (ltb place room) (λ q. rw q (inside-good (suc place) room s (ltb-true place room q) e)) (λ q. rw q (good-skipping room))
 

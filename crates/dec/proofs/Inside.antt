@@ -15,7 +15,7 @@ use Rattle.dec.specs.declared.state.DecoderState.{DecoderState}
 use Rattle.dec.specs.declared.state.DecoderState.TheVariants.{Grab}
 use Rattle.dec.specs.declared.stream.CobsDecoder.{CobsDecoder}
 use Rattle.dec.proofs.Steps.{opened-group}
-use Rattle.dec.proofs.Turns.{ahead_none, ahead-on, ahead-further, ahead-byte}
+use Rattle.dec.proofs.Turns.{ahead_none, ahead-on, ahead-byte}
 
 -- ---- one byte
 
@@ -91,27 +91,9 @@ steps_data (suc t) p i c left place m h hi hp nz =
 
 -- ---- one by one
 
-pub passed_none : (p : List ℕ) (from to : ℕ) (d : List ℕ) (most : ℕ) → Passed p from to d most 0 d
-passed_none p from to d most c left h =
-    same_ahead c (ahead_none (length d) p from (inside c left to) d) (from + 0) (left - 0) (to + 0) d (omega arith) (omega arith) (omega arith) refl
-
 pub passed_more : (p : List ℕ) (from to : ℕ) (d : List ℕ) (most k : ℕ) (d' : List ℕ) → Passed p from to d most k d' → k < most
     → from + k < length p → to + k < length d → (b : ℕ) → b ≡ get_or p (from + k) 0 → (b ≡ 0 → ⊥) → Passed p from to d most (k + 1) (set d' (to + k) b)
 passed_more p from to d most k d' w h hp hd b eb nz c left le =
     let s = step_data (length d) p (from + k) hp (λ e. nz (eb ∙ e)) c (to + k) d' hd (left - k) (omega arith) in
     same_ahead c (ahead-on (w c left le) s) (from + (k + 1)) (left - (k + 1)) (to + (k + 1)) (set d' (to + k) b)
     (omega arith) (omega arith) (omega arith) (ap (set d' (to + k)) (sym eb))
-
--- ---- from a state to its numbers and back
-
-pub to_numbers : (p : List ℕ) (f : ℕ) (d₀ : CobsDecoder) (m₀ : List ℕ) (i : ℕ) (d : CobsDecoder) (m : List ℕ) (i' : ℕ) (d' : CobsDecoder) (m' : List ℕ)
-    → Ahead (length m₀) p f d₀ m₀ i d m → Ahead (length m) p i d m i' d' m' → (j : ℕ) → j ≡ i' → (e : CobsDecoder) → e ≡ d' → Ahead (length m₀) p f d₀ m₀ j e m'
-to_numbers p f d₀ m₀ i d m i' d' m' a b j ej e ee =
-    subst (λ (x : ℕ). Ahead (length m₀) p f d₀ m₀ x e m') (sym ej)
-    (subst (λ (x : CobsDecoder). Ahead (length m₀) p f d₀ m₀ i' x m') (sym ee) (ahead-further a b))
-
-pub from-state : (d : CobsDecoder) (s : DecoderState) → d.skip ≡ false → d.state ≡ s → (room : ℕ) (p : List ℕ) (i : ℕ) (m : List ℕ) (i' : ℕ) (d' : CobsDecoder) (m' : List ℕ)
-    → Ahead room p i (at d.place s) m i' d' m' → Ahead room p i d m i' d' m'
-from-state d s k q room p i m i' d' m' a =
-    let same : at d.place s ≡ d = rw (← k, ← q) in
-    subst (λ (x : CobsDecoder). Ahead room p i x m i' d' m') same a

@@ -1,4 +1,5 @@
 -- A new decoder over a piece: TargetBufTooSmall exactly where a decoded byte has no room, and how many bytes that takes. Assumes nothing.
+use Rattle.std.specs.Prelude.{Ok, Err}
 use mathlib.Core.Path.{◌≡◌, refl, sym, ap, ◌∙◌}
 use mathlib.Core.Bool.{false, false≢true}
 use mathlib.Core.Logic.{⊎_elim}
@@ -9,13 +10,12 @@ use native.Mathlib.Omega.{arith}
 use lib.ListN.{length, take}
 use Rattle.cobs.specs.Answers.{target_buf_too_small}
 use Rattle.cobs.specs.OneShot.{decoded}
-use Rattle.dec.specs.State.{stepped}
+use Rattle.dec.specs.State.{Given, stepped}
 use Rattle.dec.specs.Stream.{new, skipping, Outcome, stops, is_more, piece_outcome, push_outcome}
 use Rattle.dec.specs.Sentences.{Overfull}
 use Rattle.dec.specs.declared.state.DecoderState.{DecoderState}
 use Rattle.dec.specs.declared.state.DecoderState.TheVariants.{Idle, Grab, GrabChain}
-use Rattle.dec.specs.declared.state.DecodeResult.{DecodeResult}
-use Rattle.dec.specs.declared.state.DecodeResult.TheVariants.{NoData, DataStart, DataComplete, DataContinue, InvalidFrame}
+use Rattle.dec.specs.declared.state.DecodeResult.TheVariants.{NoData, DataStart, DataComplete, DataContinue}
 use Rattle.dec.proofs.Good.{new-good}
 use Rattle.dec.proofs.Pieces.{push_piece}
 use Rattle.dec.proofs.Counts.{piece_enough, piece_fewer}
@@ -25,12 +25,12 @@ use Rattle.dec.proofs.Sources.{run_none, run-some, decoded-none, some-body}
 
 -- ---- what a run gives is what `decode` gives
 
-onward-out : (r : DecodeResult) (x y : Run) → x.out ≡ y.out → (onward r x).out ≡ (onward r y).out
-onward-out NoData x y e = e
-onward-out DataStart x y e = e
-onward-out (DataContinue b) x y e = ap (λ (l : List ℕ). b ∷ l) e
-onward-out DataComplete x y e = refl
-onward-out InvalidFrame x y e = refl
+onward-out : (r : Given) (x y : Run) → x.out ≡ y.out → (onward r x).out ≡ (onward r y).out
+onward-out (Ok NoData) x y e = e
+onward-out (Ok DataStart) x y e = e
+onward-out (Ok (DataContinue b)) x y e = ap (λ (l : List ℕ). b ∷ l) e
+onward-out (Ok DataComplete) x y e = refl
+onward-out (Err _) x y e = refl
 
 -- a zero at the end gives nothing
 out_zero : (src : List ℕ) (s : DecoderState) → (run s (src ++ 0 ∷ [])).out ≡ (run s src).out

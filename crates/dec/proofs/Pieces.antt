@@ -1,5 +1,5 @@
 -- A piece, byte by byte: what is left of it from here, and that it may be cut anywhere. Assumes nothing.
-use Rattle.std.specs.Prelude.{if◌then◌else◌}
+use Rattle.std.specs.Prelude.{if◌then◌else◌, Ok, Err}
 use mathlib.Core.Path.{◌≡◌, refl, sym, ap, ◌∙◌}
 use mathlib.Core.Bool.{true, false, false≢true}
 use mathlib.Core.List.{List, [], ◌∷◌, ◌++◌}
@@ -9,23 +9,22 @@ use native.Mathlib.Omega.{arith}
 use lib.Dec.{ltb}
 use lib.ListN.{length, length-set}
 use Rattle.cobs.specs.Answers.{tell}
-use Rattle.dec.specs.State.{stepped}
+use Rattle.dec.specs.State.{Given, stepped}
 use Rattle.dec.specs.Stream.{bad, result_outcome, Outcome, goes, stops, is_more, result_dest, byte_outcome, byte_dest, further, joined, piece_outcome, piece_dest, push_outcome, push_dest}
 use Rattle.dec.specs.declared.state.DecoderState.{DecoderState}
-use Rattle.dec.specs.declared.state.DecodeResult.{DecodeResult}
-use Rattle.dec.specs.declared.state.DecodeResult.TheVariants.{NoData, DataStart, DataComplete, DataContinue, InvalidFrame}
+use Rattle.dec.specs.declared.state.DecodeResult.TheVariants.{NoData, DataStart, DataComplete, DataContinue}
 use Rattle.dec.specs.declared.stream.CobsDecoder.{CobsDecoder}
 use Rattle.dec.proofs.Cases.{by_bool}
 use Rattle.dec.proofs.Good.{good_of, of_good, good_piece}
 
 -- ---- lengths
 
-length-result : (place : ℕ) (r : DecodeResult) (dest : List ℕ) → length (result_dest place r dest) ≡ length dest
-length-result place NoData dest = refl
-length-result place DataStart dest = refl
-length-result place DataComplete dest = refl
-length-result place (DataContinue b) dest = length-set dest place b
-length-result place InvalidFrame dest = refl
+length-result : (place : ℕ) (r : Given) (dest : List ℕ) → length (result_dest place r dest) ≡ length dest
+length-result place (Ok NoData) dest = refl
+length-result place (Ok DataStart) dest = refl
+length-result place (Ok DataComplete) dest = refl
+length-result place (Ok (DataContinue b)) dest = length-set dest place b
+length-result place (Err _) dest = refl
 
 pub length-byte : (d : CobsDecoder) (b : ℕ) (dest : List ℕ) → length (byte_dest d b dest) ≡ length dest
 unfolding byte_dest
@@ -97,13 +96,13 @@ module _ (d : CobsDecoder) (room b : ℕ) (p : List ℕ) where
   dest-stops e m = rw e
 
 -- a byte after which the piece goes on gives nothing but the decoder
-result-goes : (place room : ℕ) (s : DecoderState) (r : DecodeResult) → is_more (result_outcome place room s r) ≡ true
+result-goes : (place room : ℕ) (s : DecoderState) (r : Given) → is_more (result_outcome place room s r) ≡ true
     → result_outcome place room s r ≡ goes (result_outcome place room s r).next
-result-goes place room s NoData e = refl
-result-goes place room s DataStart e = refl
-result-goes place room s DataComplete e = absurd (false≢true e)
-result-goes place room s (DataContinue x) e = by_bool (ltb place room) (λ q. rw q) (λ q. absurd (false≢true (rw q at e)))
-result-goes place room s InvalidFrame e = absurd (false≢true e)
+result-goes place room s (Ok NoData) e = refl
+result-goes place room s (Ok DataStart) e = refl
+result-goes place room s (Ok DataComplete) e = absurd (false≢true e)
+result-goes place room s (Ok (DataContinue x)) e = by_bool (ltb place room) (λ q. rw q) (λ q. absurd (false≢true (rw q at e)))
+result-goes place room s (Err _) e = absurd (false≢true e)
 
 pub byte-goes : (d : CobsDecoder) (room b : ℕ) → is_more (byte_outcome d room b) ≡ true → byte_outcome d room b ≡ goes (byte_outcome d room b).next
 unfolding byte_outcome

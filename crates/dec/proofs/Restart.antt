@@ -1,4 +1,5 @@
 -- After any bytes that end in zero, over as many calls as they take, the decoder is new. Assumes nothing.
+use Rattle.std.specs.Prelude.{Ok, Err}
 use mathlib.Core.Path.{◌≡◌, refl, sym, ap, ◌∙◌}
 use mathlib.Core.Bool.{true, false, false≢true}
 use mathlib.Core.List.{List, [], ◌∷◌, ◌++◌}
@@ -7,13 +8,12 @@ use native.Mathlib.Omega.{arith}
 use lib.Dec.{ltb}
 use lib.ListN.{length, take, drop, take-append-drop}
 use lib.Seq.{take-append-le}
-use Rattle.dec.specs.State.{stepped}
+use Rattle.dec.specs.State.{Given, stepped}
 use Rattle.dec.specs.Stream.{at, new, bad, Outcome, goes, is_more, result_outcome, byte_outcome, further, piece_outcome, used, push_outcome}
 use Rattle.dec.specs.Sentences.{Pushes, none, push}
 use Rattle.dec.specs.declared.state.DecoderState.{DecoderState}
 use Rattle.dec.specs.declared.state.DecoderState.TheVariants.{Idle, Grab, GrabChain}
-use Rattle.dec.specs.declared.state.DecodeResult.{DecodeResult}
-use Rattle.dec.specs.declared.state.DecodeResult.TheVariants.{NoData, DataStart, DataComplete, DataContinue, InvalidFrame}
+use Rattle.dec.specs.declared.state.DecodeResult.TheVariants.{NoData, DataStart, DataComplete, DataContinue}
 use Rattle.dec.specs.declared.stream.CobsDecoder.{CobsDecoder}
 use Rattle.dec.proofs.Cases.{by_bool}
 use Rattle.dec.proofs.Good.{Good, good_of, push-good}
@@ -35,12 +35,12 @@ fed d room b g =
     (further-next 1 (goes (byte_outcome d room b).next)))
     (λ e. rw (push_piece d room g (b ∷ []), piece_stops d room b [] e))
 
-result-counts : (place room : ℕ) (s : DecoderState) (r : DecodeResult) → is_more (result_outcome place room s r) ≡ false → (result_outcome place room s r).answer.second ≡ 1
-result-counts place room s NoData e = absurd (false≢true (sym e))
-result-counts place room s DataStart e = absurd (false≢true (sym e))
-result-counts place room s DataComplete e = refl
-result-counts place room s (DataContinue x) e = by_bool (ltb place room) (λ q. absurd (false≢true (sym (rw q at e)))) (λ q. rw q)
-result-counts place room s InvalidFrame e = refl
+result-counts : (place room : ℕ) (s : DecoderState) (r : Given) → is_more (result_outcome place room s r) ≡ false → (result_outcome place room s r).answer.second ≡ 1
+result-counts place room s (Ok NoData) e = absurd (false≢true (sym e))
+result-counts place room s (Ok DataStart) e = absurd (false≢true (sym e))
+result-counts place room s (Ok DataComplete) e = refl
+result-counts place room s (Ok (DataContinue x)) e = by_bool (ltb place room) (λ q. absurd (false≢true (sym (rw q at e)))) (λ q. rw q)
+result-counts place room s (Err _) e = refl
 
 -- a byte that stops the piece is counted
 pub byte-counts : (d : CobsDecoder) (room b : ℕ) → is_more (byte_outcome d room b) ≡ false → (byte_outcome d room b).answer.second ≡ 1

@@ -3,7 +3,6 @@ use mathlib.Core.Path.{◌≡◌, refl, sym, ap, ◌∙◌, subst}
 use mathlib.Core.Bool.{true}
 use mathlib.Core.List.{List, ◌++◌, append_assoc}
 use Prim.Native.Nat.{ℕ, zero, suc, ◌+◌, ◌-◌, ◌≤◌, ◌<◌}
-use native.Mathlib.Nat.{le_refl}
 use native.Mathlib.Decide.{dec_lt}
 use native.Mathlib.Omega.{arith}
 use lib.ListN.{length, get_or, take, drop, set, length-set, length-drop, length-append, replicate, length-replicate, get_or-replicate}
@@ -11,7 +10,8 @@ use lib.Seq.{paste, paste-zero, paste-suc, length-paste, take-paste, drop-paste,
 use borrow.Author.Tests.{ne_eqb}
 use Rattle.blocks.specs.Blocks.{is_clear, copied}
 use Rattle.blocks.proofs.Blocks.{clear_says, copied-fits}
-use Rattle.dec.specs.Helpers.{inside, Ahead, Bytes, Clear, Patched}
+use Rattle.dec.specs.Helpers.{inside, open_at, Ahead, Clear, Patched}
+use Rattle.dec.specs.declared.fast.Open.{Open}
 use Rattle.dec.specs.declared.stream.CobsDecoder.{CobsDecoder}
 use Rattle.dec.proofs.Turns.{ahead_none, ahead-on}
 use Rattle.dec.proofs.Inside.{step-code, same_ahead, steps_data}
@@ -169,69 +169,60 @@ module _ (p : List ℕ) (i place : ℕ) (m : List ℕ) (u : ℕ) where
       same_ahead 1 (ahead-on ih (subst (λ (b : ℕ). Ahead (length m) p (i + t) (inside 1 0 (place + t)) m₁ (i + t + 1) (inside b (b - 1) (place + t + 1)) (set m₁ (place + t) 0)) one s))
       (i + suc t) 0 (place + suc t) (paste m place (replicate u 0) (suc t)) (omega arith) refl (omega arith) (e₁ ∙ e₂)
 
-pub ones-patched : (p : List ℕ) (i place c left : ℕ) (d : List ℕ) → i + 16 ≤ length p → place + 16 ≤ length d → left ≡ 0 → (c ≡ 255 → 16 ≤ left)
-    → ((k : ℕ) → k < 16 → get_or p (i + k) 0 ≡ 1) → (d' : List ℕ) → d' ≡ paste d place (replicate 16 0) 16 → Patched p i place c left d 1 0 d'
-ones-patched p i place c left d hp hd z nc f d' q m l e =
+pub ones-patched : (p : List ℕ) (i place : ℕ) (o : Open) (d : List ℕ) → i + 16 ≤ length p → place + 16 ≤ length d → o.left ≡ 0 → (o.code ≡ 255 → 16 ≤ o.left)
+    → ((k : ℕ) → k < 16 → get_or p (i + k) 0 ≡ 1) → (d' : List ℕ) → d' ≡ paste d place (replicate 16 0) 16 → Patched p i place o d (record { code = 1; left = 0 }) d'
+ones-patched p i place o d hp hd z nc f d' q m l e =
     let a = steps_ones p i place m 16 16 (omega arith) hp (omega (arith, l)) f in
-    let same : inside 1 0 place ≡ inside c left place = rw (z, ne_eqb c 255 (λ w. omega (arith, nc w, z))) in
+    let same : inside 1 0 place ≡ open_at o place = rw (z, ne_eqb o.code 255 (λ w. omega (arith, nc w, z))) in
     let end : paste m place (replicate 16 0) 16 ≡ d' =
     sym (q ∙ ap (λ (x : List ℕ). paste x place (replicate 16 0) 16) e ∙ paste-again m place (drop i p) (replicate 16 0) 16 (omega (arith, l)) (omega (arith, length-drop i p))) in
-    subst (λ (r : ℕ). Ahead r p i (inside c left place) m (i + 16) (inside 1 0 (place + 16)) d') l
+    subst (λ (r : ℕ). Ahead r p i (open_at o place) m (i + 16) (inside 1 0 (place + 16)) d') l
     (subst (λ (x : CobsDecoder). Ahead (length m) p i x m (i + 16) (inside 1 0 (place + 16)) d') same
     (subst (λ (x : List ℕ). Ahead (length m) p i (inside 1 0 place) m (i + 16) (inside 1 0 (place + 16)) x) end a))
 
 -- ---- from code to code, whatever stood there before the copy
 
-pub record Patching (p : List ℕ) (i : ℕ) (d₀ : List ℕ) (place c₀ left₀ : ℕ) (d : List ℕ) (c q : ℕ) : Type 0 where
+pub record Patching (p : List ℕ) (i : ℕ) (d₀ : List ℕ) (place : ℕ) (o : Open) (d : List ℕ) (c q : ℕ) : Type 0 where
   pub long : length d ≡ length d₀
-  pub code : c ≤ 255
   pub few : q ≤ 271
   pub full : c ≡ 255 → 16 ≤ q
-  pub mid : (m : List ℕ) → length m ≡ length d₀ → d₀ ≡ paste m place (drop i p) 16 → Mid p i place c₀ left₀ m c q d
+  pub mid : (m : List ℕ) → length m ≡ length d₀ → d₀ ≡ paste m place (drop i p) 16 → Mid p i place o.code o.left m c q d
 
-module _ (p : List ℕ) (i place c₀ left₀ : ℕ) (d₀ : List ℕ) (hp : i + 16 ≤ length p) (hd : place + 16 ≤ length d₀) (clear : Clear p i 16) where
-  pub patch_first : Bytes c₀ left₀ → (c₀ ≡ 255 → 16 ≤ left₀) → Patching p i d₀ place c₀ left₀ d₀ c₀ left₀
+module _ (p : List ℕ) (i place : ℕ) (o : Open) (d₀ : List ℕ) (hp : i + 16 ≤ length p) (hd : place + 16 ≤ length d₀) (clear : Clear p i 16) where
+  pub patch_first : o.left ≤ 255 → (o.code ≡ 255 → 16 ≤ o.left) → Patching p i d₀ place o d₀ o.code o.left
   patch_first b f =
       record {
         long = refl;
-        code = b.code;
-        few = omega (arith, b.few);
+        few = omega (arith, b);
         full = f;
-        mid = λ m l s. mid-first p i place c₀ left₀ m hp (omega (arith, l)) clear d₀ s;
+        mid = λ m l s. mid-first p i place o.code o.left m hp (omega (arith, l)) clear d₀ s;
       }
 
-  module _ (d : List ℕ) (c q : ℕ) (w : Patching p i d₀ place c₀ left₀ d c q) where
-    pub patch_code : q < 16 → (b : ℕ) → b ≡ get_or p (i + q) 0 → b ≤ 255 → Patching p i d₀ place c₀ left₀ (set d (place + q) 0) b (q + b)
+  module _ (d : List ℕ) (c q : ℕ) (w : Patching p i d₀ place o d c q) where
+    pub patch_code : q < 16 → (b : ℕ) → b ≡ get_or p (i + q) 0 → b ≤ 255 → Patching p i d₀ place o (set d (place + q) 0) b (q + b)
     patch_code h b eb lb =
         record {
           long = length-set d (place + q) 0 ∙ w.long;
-          code = lb;
           few = omega arith;
           full = λ e. omega (arith, e);
           mid = λ m l s.
-              mid-code p i place c₀ left₀ m hp (omega (arith, l)) clear c q d (w.mid m l s) h (λ e. absurd (omega (arith, w.full e))) b eb (set d (place + q) 0) refl;
+              mid-code p i place o.code o.left m hp (omega (arith, l)) clear c q d (w.mid m l s) h (λ e. absurd (omega (arith, w.full e))) b eb (set d (place + q) 0) refl;
         }
 
-    pub patch_last : 16 ≤ q → Patched p i place c₀ left₀ d₀ c (q - 16) d
+    pub patch_last : 16 ≤ q → Patched p i place o d₀ (record { code = c; left = q - 16 }) d
     patch_last h m l s =
-        subst (λ (r : ℕ). Ahead r p i (inside c₀ left₀ place) m (i + 16) (inside c (q - 16) (place + 16)) d) l
-        (mid-last p i place c₀ left₀ m hp (omega (arith, l)) clear c q d (w.mid m l s) h)
+        subst (λ (r : ℕ). Ahead r p i (open_at o place) m (i + 16) (inside c (q - 16) (place + 16)) d) l
+        (mid-last p i place o.code o.left m hp (omega (arith, l)) clear c q d (w.mid m l s) h)
 
 -- ---- block by block
 
-pub record Blocks (p : List ℕ) (from : ℕ) (d₀ : List ℕ) (to c₀ left₀ : ℕ) (d : List ℕ) (i place c left : ℕ) : Type 0 where
+pub record Blocks (p : List ℕ) (from : ℕ) (d₀ : List ℕ) (to : ℕ) (o₀ : Open) (d : List ℕ) (i place : ℕ) (o : Open) : Type 0 where
   pub after : from ≤ i
   pub within : i ≤ length p
   pub room : place ≤ length d₀
-  pub bytes : Bytes c left
-  pub ahead : Ahead (length d₀) p from (inside c₀ left₀ to) d₀ i (inside c left place) d
+  pub ahead : Ahead (length d₀) p from (open_at o₀ to) d₀ i (open_at o place) d
 
-pub blocks_first : (p : List ℕ) (from : ℕ) (d₀ : List ℕ) (to c₀ left₀ : ℕ) → from ≤ length p → to ≤ length d₀ → Bytes c₀ left₀
-    → Blocks p from d₀ to c₀ left₀ d₀ from to c₀ left₀
-blocks_first p from d₀ to c₀ left₀ h k b =
-    record { after = le_refl from; within = h; room = k; bytes = b; ahead = ahead_none (length d₀) p from (inside c₀ left₀ to) d₀ }
-
-module _ (p : List ℕ) (from : ℕ) (d₀ : List ℕ) (to c₀ left₀ : ℕ) (d : List ℕ) (i place c left : ℕ) (w : Blocks p from d₀ to c₀ left₀ d i place c left)
+module _ (p : List ℕ) (from : ℕ) (d₀ : List ℕ) (to : ℕ) (o₀ : Open) (d : List ℕ) (i place : ℕ) (o : Open) (w : Blocks p from d₀ to o₀ d i place o)
     (h : 16 ≤ length d - place) (clear : is_clear p i ≡ true) (d₁ : List ℕ) (e : d₁ ≡ copied d place p i) where
   is_copy : d₁ ≡ paste d place (drop i p) 16
   is_copy = e ∙ copied-fits d place p i (omega arith) (clear_says p i clear).0
@@ -243,14 +234,12 @@ module _ (p : List ℕ) (from : ℕ) (d₀ : List ℕ) (to c₀ left₀ : ℕ) (
   pub block-stands : (i + 16 ≤ length p) × (place + 16 ≤ length d₁)
   block-stands = ((clear_says p i clear).0, omega (arith, long, w.room, w.ahead.long))
 
-  pub block-turn : (c' left' : ℕ) → Bytes c' left' → (d' : List ℕ) → Patched p i place c left d₁ c' left' d'
-      → Blocks p from d₀ to c₀ left₀ d' (i + 16) (place + 16) c' left'
-  block-turn c' left' b d' patched =
+  pub block-turn : (o' : Open) (d' : List ℕ) → Patched p i place o d₁ o' d' → Blocks p from d₀ to o₀ d' (i + 16) (place + 16) o'
+  block-turn o' d' patched =
       let a = patched d (sym long) is_copy in
       record {
         after = omega (arith, w.after);
         within = (clear_says p i clear).0;
         room = omega (arith, w.ahead.long);
-        bytes = b;
-        ahead = ahead-on w.ahead (subst (λ (r : ℕ). Ahead r p i (inside c left place) d (i + 16) (inside c' left' (place + 16)) d') (long ∙ w.ahead.long) a);
+        ahead = ahead-on w.ahead (subst (λ (r : ℕ). Ahead r p i (open_at o place) d (i + 16) (open_at o' (place + 16)) d') (long ∙ w.ahead.long) a);
       }

@@ -1,6 +1,6 @@
 -- Two results that meet a function's promise are equal, the memory behind its `&mut` with them, for every public function.
 -- Assumes nothing.
-use Rattle.std.specs.Prelude.{if◌then◌else◌}
+use Rattle.std.specs.Prelude.{if◌then◌else◌, Result, Some, None, Ok, Err}
 use mathlib.Core.Path.{◌≡◌, refl, sym, ◌∙◌}
 use mathlib.Core.List.{List, [], ◌∷◌}
 use Prim.Native.Nat.{ℕ}
@@ -9,58 +9,57 @@ use lib.ListN.{length}
 use Rattle.cobs.specs.Answers.{Told, is_done}
 use Rattle.cobs.specs.OneShot.{decode_told, decode_dest}
 use Rattle.cobs.proofs.Told.{one-result}
-use Rattle.dec.specs.State.{stepped, Feeds}
-use Rattle.dec.specs.Stream.{new, Outcome, told, outcome, push_outcome, push_dest}
+use Rattle.dec.specs.State.{Given, stepped, Feeds}
+use Rattle.dec.specs.Stream.{new, Outcome, Answer, told, outcome, push_outcome, push_dest}
 use Rattle.dec.specs.Calls.{decoded_told}
 use Rattle.dec.specs.declared.state.DecoderState.{DecoderState}
 use Rattle.dec.specs.declared.state.DecoderState.TheVariants.{Idle}
-use Rattle.dec.specs.declared.state.DecodeResult.{DecodeResult}
 use Rattle.dec.specs.declared.state.Stepped.{Stepped}
 use Rattle.dec.specs.declared.stream.CobsDecoder.{CobsDecoder}
-use Rattle.dec.specs.declared.stream.PushAnswer.{PushAnswer}
-use Rattle.dec.specs.declared.stream.PushAnswer.TheVariants as push
+use Rattle.dec.specs.declared.stream.Frame.{Frame}
+use Rattle.dec.specs.declared.stream.PushError.TheVariants as push
 use Rattle.dec.specs.declared.stream.Pushed.{Pushed}
-use Rattle.dec.specs.declared.decode.Decoded.{Decoded}
-use Rattle.dec.specs.declared.decode.Decoded.TheVariants as decoded
+use Rattle.dec.specs.declared.decode.DecodeError.{DecodeError}
+use Rattle.dec.specs.declared.decode.DecodeError.TheVariants as refused
 
 -- ---- what tells an answer, read back
 
-push-back : Told → PushAnswer
+push-back : Told → Answer
 push-back t =
-    if is_done t then push.Frame t.first t.second
-    else if eqb t.number 2 then push.InvalidFrame t.first t.second
-    else if eqb t.number 3 then push.TargetBufTooSmall t.second
-    else if eqb t.number 6 then push.BadState
-    else push.More
+    if is_done t then Ok (Some (record { size = t.first; parsed = t.second }))
+    else if eqb t.number 2 then Err (push.InvalidFrame t.first t.second)
+    else if eqb t.number 3 then Err (push.TargetBufTooSmall t.second)
+    else if eqb t.number 6 then Err push.BadState
+    else Ok None
 
 outcome-back : Outcome → Pushed
 outcome-back o = record { next = o.next; answer = push-back o.answer }
 
-push-undone : (a : PushAnswer) → push-back (told a) ≡ a
+push-undone : (a : Answer) → push-back (told a) ≡ a
 unfolding push-back
-push-undone push.More = refl
-push-undone (push.Frame size parsed) = refl
-push-undone (push.InvalidFrame bytes consumed) = refl
-push-undone (push.TargetBufTooSmall consumed) = refl
-push-undone push.BadState = refl
+push-undone (Ok None) = refl
+push-undone (Ok (Some frame)) = refl
+push-undone (Err (push.InvalidFrame bytes consumed)) = refl
+push-undone (Err (push.TargetBufTooSmall consumed)) = refl
+push-undone (Err push.BadState) = refl
 
 outcome-undone : (r : Pushed) → outcome-back (outcome r) ≡ r
 unfolding outcome-back
 outcome-undone r = rw (push-undone r.answer)
 
-decoded-back : Told → Decoded
+decoded-back : Told → Result Frame DecodeError
 decoded-back t =
-    if is_done t then decoded.Frame t.first t.second
-    else if eqb t.number 1 then decoded.EmptyFrame
-    else if eqb t.number 2 then decoded.InvalidFrame t.first
-    else decoded.TargetBufTooSmall
+    if is_done t then Ok (record { size = t.first; parsed = t.second })
+    else if eqb t.number 1 then Err refused.EmptyFrame
+    else if eqb t.number 2 then Err (refused.InvalidFrame t.first)
+    else Err refused.TargetBufTooSmall
 
-decoded-undone : (r : Decoded) → decoded-back (decoded_told r) ≡ r
+decoded-undone : (r : Result Frame DecodeError) → decoded-back (decoded_told r) ≡ r
 unfolding decoded-back
-decoded-undone (decoded.Frame size parsed) = refl
-decoded-undone decoded.EmptyFrame = refl
-decoded-undone (decoded.InvalidFrame bytes) = refl
-decoded-undone decoded.TargetBufTooSmall = refl
+decoded-undone (Ok frame) = refl
+decoded-undone (Err refused.EmptyFrame) = refl
+decoded-undone (Err (refused.InvalidFrame bytes)) = refl
+decoded-undone (Err refused.TargetBufTooSmall) = refl
 
 -- ---- the state
 
@@ -71,7 +70,7 @@ pub unique-step : (d : DecoderState) (b : ℕ) (r s : Stepped) → r ≡ stepped
 unique-step d b r s p q = p ∙ sym q
 
 -- a result, and the state behind the reference after it
-pub unique-DecoderState-feed : (d : DecoderState) (b : ℕ) (r s : DecodeResult) (k l : DecoderState) → Feeds d b r k → Feeds d b s l → (r ≡ s) × (k ≡ l)
+pub unique-DecoderState-feed : (d : DecoderState) (b : ℕ) (r s : Given) (k l : DecoderState) → Feeds d b r k → Feeds d b s l → (r ≡ s) × (k ≡ l)
 unique-DecoderState-feed d b r s k l p q = (p.result ∙ sym q.result, p.state ∙ sym q.state)
 
 pub unique-fed : (d : DecoderState) (b : ℕ) (r s : Stepped) → r ≡ stepped d b → s ≡ stepped d b → r ≡ s
@@ -102,8 +101,8 @@ unique-CobsDecoder-feed d b dest r s k l p q = unique-push d (b ∷ []) dest r s
 
 -- ---- the one-shot call
 
-abbrev Decodes : (src dest : List ℕ) → Decoded → List ℕ → Type 0
+abbrev Decodes : (src dest : List ℕ) → Result Frame DecodeError → List ℕ → Type 0
 Decodes src dest = Meets decoded_told (decode_told src (length dest)) (decode_dest src dest)
 
-pub unique-decode : (src dest : List ℕ) (r s : Decoded) (k l : List ℕ) → Decodes src dest r k → Decodes src dest s l → (r ≡ s) × (k ≡ l)
+pub unique-decode : (src dest : List ℕ) (r s : Result Frame DecodeError) (k l : List ℕ) → Decodes src dest r k → Decodes src dest s l → (r ≡ s) × (k ≡ l)
 unique-decode src dest r s k l p q = one decoded_told decoded-back decoded-undone (decode_told src (length dest)) (decode_dest src dest) r s k l p q

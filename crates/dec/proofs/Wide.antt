@@ -1,17 +1,17 @@
 -- Over bytes the decoder stays within its types: what is left of a group fits a byte, and what is written are bytes.
 -- Assumes nothing.
+use Rattle.std.specs.Prelude.{Ok, Err}
 use mathlib.Core.List.{List, [], ◌∷◌}
 use Prim.Native.Nat.{ℕ, zero, suc, ◌<◌}
 use native.Mathlib.Omega.{arith}
 use lib.Dec.{eqb, ltb}
 use Rattle.cobs.specs.Code.{Bytes}
 use Rattle.cobs.proofs.Wide.{bytes-set}
-use Rattle.dec.specs.State.{opened, at_zero, stepped}
+use Rattle.dec.specs.State.{Given, opened, at_zero, stepped}
 use Rattle.dec.specs.Stream.{Outcome, is_more, result_outcome, byte_outcome, result_dest, byte_dest, piece_outcome, piece_dest}
 use Rattle.dec.specs.declared.state.DecoderState.{DecoderState}
 use Rattle.dec.specs.declared.state.DecoderState.TheVariants.{Idle, Grab, GrabChain}
-use Rattle.dec.specs.declared.state.DecodeResult.{DecodeResult}
-use Rattle.dec.specs.declared.state.DecodeResult.TheVariants.{NoData, DataStart, DataComplete, DataContinue, InvalidFrame}
+use Rattle.dec.specs.declared.state.DecodeResult.TheVariants.{NoData, DataStart, DataComplete, DataContinue}
 use Rattle.dec.specs.declared.stream.CobsDecoder.{CobsDecoder}
 use Rattle.dec.proofs.Cases.{by_bool}
 use Rattle.dec.proofs.Pieces.{joined-more, joined_stop, further-next}
@@ -37,12 +37,12 @@ step_left (GrabChain k) zero h l = omega arith
 step_left (GrabChain zero) (suc n) h l = opened-left n (omega arith)
 step_left (GrabChain (suc k)) (suc n) h l = omega arith
 
-result-left : (place room : ℕ) (s : DecoderState) (r : DecodeResult) → left s < 256 → left (result_outcome place room s r).next.state < 256
-result-left place room s NoData h = h
-result-left place room s DataStart h = h
-result-left place room s DataComplete h = omega arith
-result-left place room s (DataContinue b) h = by_bool (ltb place room) (λ e. rw e h) (λ e. rw e (omega arith))
-result-left place room s InvalidFrame h = omega arith
+result-left : (place room : ℕ) (s : DecoderState) (r : Given) → left s < 256 → left (result_outcome place room s r).next.state < 256
+result-left place room s (Ok NoData) h = h
+result-left place room s (Ok DataStart) h = h
+result-left place room s (Ok DataComplete) h = omega arith
+result-left place room s (Ok (DataContinue b)) h = by_bool (ltb place room) (λ e. rw e h) (λ e. rw e (omega arith))
+result-left place room s (Err _) h = omega arith
 
 byte_left : (d : CobsDecoder) (room b : ℕ) → left d.state < 256 → b < 256 → left (byte_outcome d room b).next.state < 256
 unfolding byte_outcome
@@ -52,12 +52,12 @@ byte_left d room b h l =
     (λ e. rw e (result-left d.place room (stepped d.state b).state (stepped d.state b).result (step_left d.state b h l)))
 
 -- What goes on to the destination is a byte.
-abbrev Gives : DecodeResult → Type 0
-Gives NoData = Unit {0}
-Gives DataStart = Unit {0}
-Gives DataComplete = Unit {0}
-Gives (DataContinue b) = b < 256
-Gives InvalidFrame = Unit {0}
+abbrev Gives : Given → Type 0
+Gives (Ok NoData) = Unit {0}
+Gives (Ok DataStart) = Unit {0}
+Gives (Ok DataComplete) = Unit {0}
+Gives (Ok (DataContinue b)) = b < 256
+Gives (Err _) = Unit {0}
 
 zero_gives : (k : ℕ) → Gives (at_zero k)
 zero_gives zero = tt
@@ -73,12 +73,12 @@ step_gives (GrabChain k) zero l = zero_gives k
 step_gives (GrabChain zero) (suc n) l = tt
 step_gives (GrabChain (suc k)) (suc n) l = l
 
-result-bytes : (place : ℕ) (r : DecodeResult) (m : List ℕ) → Gives r → Bytes m → Bytes (result_dest place r m)
-result-bytes place NoData m g h = h
-result-bytes place DataStart m g h = h
-result-bytes place DataComplete m g h = h
-result-bytes place (DataContinue b) m g h = bytes-set m place b g h
-result-bytes place InvalidFrame m g h = h
+result-bytes : (place : ℕ) (r : Given) (m : List ℕ) → Gives r → Bytes m → Bytes (result_dest place r m)
+result-bytes place (Ok NoData) m g h = h
+result-bytes place (Ok DataStart) m g h = h
+result-bytes place (Ok DataComplete) m g h = h
+result-bytes place (Ok (DataContinue b)) m g h = bytes-set m place b g h
+result-bytes place (Err _) m g h = h
 
 byte-bytes : (d : CobsDecoder) (b : ℕ) (m : List ℕ) → b < 256 → Bytes m → Bytes (byte_dest d b m)
 unfolding byte_dest

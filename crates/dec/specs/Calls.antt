@@ -1,12 +1,14 @@
 -- 01's number and values for each case of `decode`'s answer. What the call answers and leaves is stated in
 -- cobs, by the reading of a body. Assumes nothing.
+use Rattle.std.specs.Prelude.{Result, Ok, Err}
 use Rattle.cobs.specs.Answers.{Told, done, empty_frame, invalid_frame, target_buf_too_small}
-use Rattle.dec.specs.declared.decode.Decoded.{Decoded}
-use Rattle.dec.specs.declared.decode.Decoded.TheVariants as decoded
+use Rattle.dec.specs.declared.stream.Frame.{Frame}
+use Rattle.dec.specs.declared.decode.DecodeError.{DecodeError}
+use Rattle.dec.specs.declared.decode.DecodeError.TheVariants.{EmptyFrame, InvalidFrame, TargetBufTooSmall}
 
 -- What `decode` answers, told.
-abbrev pub decoded_told : Decoded → Told
-decoded_told (decoded.Frame size parsed) = done size parsed
-decoded_told decoded.EmptyFrame = empty_frame
-decoded_told (decoded.InvalidFrame bytes) = invalid_frame bytes 0
-decoded_told decoded.TargetBufTooSmall = target_buf_too_small 0
+abbrev pub decoded_told : Result Frame DecodeError → Told
+decoded_told (Ok frame) = done frame.size frame.parsed
+decoded_told (Err EmptyFrame) = empty_frame
+decoded_told (Err (InvalidFrame decoded)) = invalid_frame decoded 0
+decoded_told (Err TargetBufTooSmall) = target_buf_too_small 0

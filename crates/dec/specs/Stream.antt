@@ -1,15 +1,15 @@
 -- 01 "Decoding calls", streaming: what a byte and a piece come to, on the declared decoder itself. Assumes nothing.
-use Rattle.std.specs.Prelude.{Bool, true, false, not, ◌&&◌, ◌||◌, List, [], ◌∷◌, ℕ, suc, ◌+◌, eqb, length, set, if◌then◌else◌}
+use Rattle.std.specs.Prelude.{Bool, true, false, not, ◌&&◌, ◌||◌, List, [], ◌∷◌, ℕ, suc, ◌+◌, eqb, length, set, if◌then◌else◌, Option, Some, None, Result, Ok, Err}
 use Rattle.cobs.specs.Words.{◌exceeds◌}
 use Rattle.cobs.specs.Answers.{Told, tell, done, invalid_frame, target_buf_too_small, bad_state, more}
-use Rattle.dec.specs.State.{stepped}
+use Rattle.dec.specs.State.{Given, stepped}
 use Rattle.dec.specs.declared.state.DecoderState.{DecoderState}
 use Rattle.dec.specs.declared.state.DecoderState.TheVariants.{Idle, Grab, GrabChain}
-use Rattle.dec.specs.declared.state.DecodeResult.{DecodeResult}
 use Rattle.dec.specs.declared.state.DecodeResult.TheVariants as result
 use Rattle.dec.specs.declared.stream.CobsDecoder.{CobsDecoder}
-use Rattle.dec.specs.declared.stream.PushAnswer.{PushAnswer}
-use Rattle.dec.specs.declared.stream.PushAnswer.TheVariants.{More, Frame, InvalidFrame, TargetBufTooSmall, BadState}
+use Rattle.dec.specs.declared.stream.Frame.{Frame}
+use Rattle.dec.specs.declared.stream.PushError.{PushError}
+use Rattle.dec.specs.declared.stream.PushError.TheVariants.{InvalidFrame, TargetBufTooSmall, BadState}
 use Rattle.dec.specs.declared.stream.Pushed.{Pushed}
 
 -- ---- the decoder
@@ -54,13 +54,17 @@ goes d = record { next = d; answer = more }
 abbrev pub stops : CobsDecoder → Told → Outcome
 stops d t = record { next = d; answer = t }
 
--- What `push` answers, told.
-abbrev pub told : PushAnswer → Told
-told More = more
-told (Frame size parsed) = done size parsed
-told (InvalidFrame decoded consumed) = invalid_frame decoded consumed
-told (TargetBufTooSmall consumed) = target_buf_too_small consumed
-told BadState = bad_state
+-- What `push` answers: a frame, or none where the piece is used up; or a refusal.
+abbrev pub Answer : Type 0
+Answer = Result (Option Frame) PushError
+
+-- The same, told.
+abbrev pub told : Answer → Told
+told (Ok None) = more
+told (Ok (Some frame)) = done frame.size frame.parsed
+told (Err (InvalidFrame decoded consumed)) = invalid_frame decoded consumed
+told (Err (TargetBufTooSmall consumed)) = target_buf_too_small consumed
+told (Err BadState) = bad_state
 
 -- What a push gave, with its answer told.
 abbrev pub outcome : Pushed → Outcome
@@ -73,13 +77,13 @@ is_more o = eqb o.answer.number more.number
 -- ---- one byte
 
 -- What the state gives, at a write place in a destination of so many bytes.
-abbrev pub result_outcome : (place room : ℕ) → DecoderState → DecodeResult → Outcome
-result_outcome place room s result.NoData = goes (at place s)
-result_outcome place room s result.DataStart = goes (at place s)
-result_outcome place room s result.DataComplete = stops new (done place 1)
-result_outcome place room s (result.DataContinue b) =
+abbrev pub result_outcome : (place room : ℕ) → DecoderState → Given → Outcome
+result_outcome place room s (Ok result.NoData) = goes (at place s)
+result_outcome place room s (Ok result.DataStart) = goes (at place s)
+result_outcome place room s (Ok result.DataComplete) = stops new (done place 1)
+result_outcome place room s (Ok (result.DataContinue b)) =
     if room exceeds place then goes (at (suc place) s) else stops skipping (target_buf_too_small 1)
-result_outcome place room s result.InvalidFrame = stops new (invalid_frame place 1)
+result_outcome place room s (Err early) = stops new (invalid_frame place 1)
 
 -- Everything through the next zero is dropped while skipping.
 unfoldable pub byte_outcome : CobsDecoder → (room byte : ℕ) → Outcome
@@ -88,12 +92,12 @@ byte_outcome d room b =
     else result_outcome d.place room (stepped d.state b).state (stepped d.state b).result
 
 -- The destination: `set` past its end changes nothing.
-abbrev pub result_dest : (place : ℕ) → DecodeResult → List ℕ → List ℕ
-result_dest place result.NoData dest = dest
-result_dest place result.DataStart dest = dest
-result_dest place result.DataComplete dest = dest
-result_dest place (result.DataContinue b) dest = set dest place b
-result_dest place result.InvalidFrame dest = dest
+abbrev pub result_dest : (place : ℕ) → Given → List ℕ → List ℕ
+result_dest place (Ok result.NoData) dest = dest
+result_dest place (Ok result.DataStart) dest = dest
+result_dest place (Ok result.DataComplete) dest = dest
+result_dest place (Ok (result.DataContinue b)) dest = set dest place b
+result_dest place (Err early) dest = dest
 
 -- The destination after the byte.
 unfoldable pub byte_dest : CobsDecoder → (byte : ℕ) → List ℕ → List ℕ

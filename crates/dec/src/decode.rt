@@ -4,54 +4,62 @@ ghost use Rattle.cobs.specs.OneShot.{decode_told, decode_dest};
 ghost use Rattle.dec.specs.Calls.{decoded_told};
 ghost use Rattle.dec.specs.Helpers.{stopped};
 
-use crate::stream::{CobsDecoder, PushAnswer};
+use crate::stream::{CobsDecoder, Frame, PushError};
+use std::error::Error;
+use std::fmt;
 
-/// A frame, with its size and how much of the source was parsed; or a refusal.
-#[derive(Clone, Copy)]
-pub enum Decoded {
-    Frame { size: usize, parsed: usize },
+/// Why a source gave no frame. `decoded` counts the bytes decoded before a group fell short.
+#[derive(Clone, Copy, Debug, PartialEq, Eq)]
+pub enum DecodeError {
     EmptyFrame,
     InvalidFrame { decoded: usize },
     TargetBufTooSmall,
 }
 
-// What a push answered, as this call gives it.
-fn stopped(answer: PushAnswer) -> Decoded
-    ensures { result ≡ stopped answer }
-{
-    match answer {
-        PushAnswer::More => Decoded::InvalidFrame { decoded: 0 },
-        PushAnswer::Frame { size, parsed } => Decoded::Frame { size, parsed },
-        PushAnswer::InvalidFrame {
-            decoded,
-            consumed: _,
-        } => Decoded::InvalidFrame { decoded },
-        PushAnswer::TargetBufTooSmall { consumed: _ } => Decoded::TargetBufTooSmall,
-        PushAnswer::BadState => Decoded::InvalidFrame { decoded: 0 },
+impl fmt::Display for DecodeError {
+    fn fmt<W: fmt::Write>(&self, f: &mut fmt::Formatter<W>) -> fmt::Result {
+        match self {
+            DecodeError::EmptyFrame => write!(f, "EmptyFrame"),
+            DecodeError::InvalidFrame { decoded } => write!(f, "InvalidFrame {decoded}"),
+            DecodeError::TargetBufTooSmall => write!(f, "TargetBufTooSmall"),
+        }
+    }
+}
+
+impl Error for DecodeError {}
+
+// A new decoder is never in a bad state.
+impl From<PushError> for DecodeError {
+    ghost from_gives = { λ refusal e. e ≡ stopped refusal };
+
+    fn from(refusal: PushError) -> DecodeError {
+        match refusal {
+            PushError::InvalidFrame { decoded, .. } => DecodeError::InvalidFrame { decoded },
+            PushError::TargetBufTooSmall { .. } => DecodeError::TargetBufTooSmall,
+            PushError::BadState => DecodeError::InvalidFrame { decoded: 0 },
+        }
     }
 }
 
 /// Decodes the first frame of the source. Leading zeros are skipped, and a missing last zero is supplied.
-pub fn decode(src: &[u8], dest: &mut [u8]) -> Decoded
+pub fn decode(src: &[u8], dest: &mut [u8]) -> Result<Frame, DecodeError>
     ensures answer { decoded_told result ≡ decode_told src.now (length dest.old) }
     ensures memory { dest.new ≡ decode_dest src.now dest.old }
 {
-    if src.len() == 0 {
-        return Decoded::EmptyFrame;
+    if src.is_empty() {
+        return Err(DecodeError::EmptyFrame);
     }
     let pushed = CobsDecoder::new().push(dest, src);
-    let answer = pushed.answer;
-    let next = pushed.next;
-    let PushAnswer::More = answer else {
-        return stopped(answer);
-    };
-    let closed = next.feed(dest, 0);
-    let last = closed.answer;
-    let PushAnswer::Frame { size, parsed: _ } = last else {
-        return stopped(last);
-    };
-    Decoded::Frame {
-        size,
-        parsed: src.len(),
+    if let Some(frame) = pushed.answer? {
+        return Ok(frame);
     }
+    let closed = pushed.next.feed(dest, 0);
+    let Some(frame) = closed.answer? else {
+        // zeros alone are no body
+        return Err(DecodeError::InvalidFrame { decoded: 0 });
+    };
+    Ok(Frame {
+        size: frame.size,
+        parsed: src.len(),
+    })
 }

@@ -1,16 +1,29 @@
 //! Inside a frame, sixteen bytes at a time. A byte of the piece stands in the destination as it is, one place back for each
 //! full group, and a code's place holds the zero that it stands for. So sixteen bytes without a zero are copied as they are,
 //! and the codes among them become zeros after.
-ghost use Rattle.std.specs.Prelude.{◌≡◌, ◌+◌, ◌≤◌, length};
-ghost use Rattle.dec.specs.Helpers.{inside, Ahead, Bytes, Clear, Patched, Passed};
+ghost use Rattle.std.specs.Prelude.{◌≡◌, ◌+◌, ◌≤◌, eqb, length};
+ghost use Rattle.dec.specs.Helpers.{group, open_at, Ahead, Clear, Patched, Passed};
 
+use crate::state::DecoderState;
 use blocks::{all16, clear16, copy16, fill16};
 
 /// A group that is open: its code, and how many of its bytes are to come.
 #[derive(Clone, Copy)]
 pub(crate) struct Open {
-    pub code: usize,
-    pub left: usize,
+    pub code: u8,
+    pub left: u8,
+}
+
+impl Open {
+    /// The decoder's state inside the group.
+    pub(crate) fn state(self) -> DecoderState
+        ensures { result ≡ group (eqb self.code 0xFF) self.left }
+    {
+        if self.code == 0xFF {
+            return DecoderState::GrabChain(self.left);
+        }
+        DecoderState::Grab(self.left)
+    }
 }
 
 /// How far into the piece and the destination, and the group that is open there.
@@ -18,55 +31,38 @@ pub(crate) struct Open {
 pub(crate) struct Reached {
     pub i: usize,
     pub place: usize,
-    pub code: usize,
-    pub left: usize,
-}
-
-fn wide(b: u8) -> usize
-    ensures { (result ≡ b) × (result ≤ 255) }
-{
-    b as usize
+    pub group: Open,
 }
 
 // The codes among sixteen bytes that are copied already, from one to the next.
-fn each_code(
-    piece: &[u8],
-    i: usize,
-    dest: &mut [u8],
-    place: usize,
-    code: usize,
-    left: usize,
-) -> Open
+fn each_code(piece: &[u8], i: usize, dest: &mut [u8], place: usize, opened: Open) -> Open
     requires i_in_bounds { (i + 16 ≤ length piece.now) × (place + 16 ≤ length dest.old) }
     requires clear { Clear piece.now i 16 }
-    requires bytes { Bytes code left }
-    requires le_left { code ≡ 255 → 16 ≤ left }
-    ensures group { Bytes result.code result.left }
-    ensures decoded { Patched piece.now i place code left dest.old result.code result.left dest.new }
+    requires le_left { opened.code ≡ 255 → 16 ≤ opened.left }
+    ensures { Patched piece.now i place opened dest.old result dest.new }
 {
-    let mut c = code;
-    let mut q = left;
+    let mut code = opened.code;
+    let mut q = usize::from(opened.left);
+    // Not a `for`: each step is as long as the code that it reads.
     while q < 16 {
         dest[place + q] = 0;
-        c = wide(piece[i + q]);
-        q += c;
+        code = piece[i + q];
+        q += usize::from(code);
     }
     Open {
-        code: c,
-        left: q - 16,
+        code,
+        left: (q - 16) as u8,
     }
 }
 
 // The same. Sixteen codes of 01 are sixteen zeros.
-fn codes(piece: &[u8], i: usize, dest: &mut [u8], place: usize, code: usize, left: usize) -> Open
+fn codes(piece: &[u8], i: usize, dest: &mut [u8], place: usize, opened: Open) -> Open
     requires i_in_bounds { (i + 16 ≤ length piece.now) × (place + 16 ≤ length dest.old) }
     requires clear { Clear piece.now i 16 }
-    requires bytes { Bytes code left }
-    requires le_left { code ≡ 255 → 16 ≤ left }
-    ensures group { Bytes result.code result.left }
-    ensures decoded { Patched piece.now i place code left dest.old result.code result.left dest.new }
+    requires le_left { opened.code ≡ 255 → 16 ≤ opened.left }
+    ensures { Patched piece.now i place opened dest.old result dest.new }
 {
-    if left == 0 {
+    if opened.left == 0 {
         if piece[i] == 1 {
             if all16(piece, i, 1) {
                 fill16(dest, place, 0);
@@ -74,7 +70,7 @@ fn codes(piece: &[u8], i: usize, dest: &mut [u8], place: usize, code: usize, lef
             }
         }
     }
-    each_code(piece, i, dest, place, code, left)
+    each_code(piece, i, dest, place, opened)
 }
 
 // Decodes by sixteen, up to a zero, the end of a full group, or less than sixteen bytes.
@@ -85,19 +81,17 @@ pub(crate) fn by_sixteen(
     to: usize,
     opened: Open,
 ) -> Reached
-    requires from_in_bounds { (from ≤ length piece.now) × (to ≤ length dest.old) }
-    requires bytes { Bytes opened.code opened.left }
-    ensures group { Bytes result.code result.left }
+    requires { (from ≤ length piece.now) × (to ≤ length dest.old) }
     ensures within { (from ≤ result.i) × (result.i ≤ length piece.now) × (result.place ≤ length dest.old) }
-    ensures decoded { Ahead (length dest.old) piece.now from (inside opened.code opened.left to) dest.old result.i (inside result.code result.left result.place) dest.new }
+    ensures decoded { Ahead (length dest.old) piece.now from (open_at opened to) dest.old result.i (open_at result.group result.place) dest.new }
 {
     let mut i = from;
     let mut place = to;
-    let mut code = opened.code;
-    let mut left = opened.left;
+    let mut group = opened;
+    // Not a `for`: two places go on together, and any of four tests ends it.
     while 16 <= dest.len() - place {
-        if code == 0xFF {
-            if left < 16 {
+        if group.code == 0xFF {
+            if group.left < 16 {
                 break;
             }
         }
@@ -105,18 +99,11 @@ pub(crate) fn by_sixteen(
             break;
         }
         copy16(dest, place, piece, i);
-        let after = codes(piece, i, dest, place, code, left);
-        code = after.code;
-        left = after.left;
+        group = codes(piece, i, dest, place, group);
         i += 16;
         place += 16;
     }
-    Reached {
-        i,
-        place,
-        code,
-        left,
-    }
+    Reached { i, place, group }
 }
 
 // The bytes of a group up to a zero, at most so many, one by one. Answers how many.
@@ -125,14 +112,12 @@ pub(crate) fn bytes(piece: &[u8], from: usize, dest: &mut [u8], to: usize, most:
     ensures few { result ≤ most }
     ensures decoded { Passed piece.now from to dest.old most result dest.new }
 {
-    let mut k: usize = 0;
-    while k < most {
+    for k in 0..most {
         let b = piece[from + k];
         if b == 0 {
-            break;
+            return k;
         }
         dest[to + k] = b;
-        k += 1;
     }
-    k
+    most
 }

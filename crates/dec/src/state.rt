@@ -2,29 +2,43 @@
 ghost use Rattle.std.specs.Prelude.{◌≡◌, ◌<◌};
 ghost use Rattle.dec.specs.State.{gives, opened, at_zero, stepped, told_given, given_told, Feeds};
 
+use std::error::Error;
+use std::fmt;
+
 /// No byte of a body yet; so many bytes of a group to come; the same in a group whose code is FF.
-#[derive(Clone, Copy)]
+#[derive(Clone, Copy, Debug, PartialEq, Eq)]
 pub enum DecoderState {
     Idle,
     Grab(u8),
     GrabChain(u8),
 }
 
-/// What one byte gives. `InvalidFrame` is the refusal of an early zero, with 0 decoded bytes.
-#[derive(Clone, Copy)]
+/// What one byte gives.
+#[derive(Clone, Copy, Debug, PartialEq, Eq)]
 pub enum DecodeResult {
     NoData,
     DataStart,
     DataComplete,
     DataContinue(u8),
-    InvalidFrame,
 }
 
+/// A zero while bytes of a group are to come: 01's InvalidFrame, with 0 decoded bytes.
+#[derive(Clone, Copy, Debug, PartialEq, Eq)]
+pub struct EarlyZero;
+
+impl fmt::Display for EarlyZero {
+    fn fmt<W: fmt::Write>(&self, f: &mut fmt::Formatter<W>) -> fmt::Result {
+        f.write_str("InvalidFrame 0")
+    }
+}
+
+impl Error for EarlyZero {}
+
 /// The state after a byte, and what the byte gave.
-#[derive(Clone, Copy)]
+#[derive(Clone, Copy, Debug, PartialEq, Eq)]
 pub struct Stepped {
     pub state: DecoderState,
-    pub result: DecodeResult,
+    pub result: Result<DecodeResult, EarlyZero>,
 }
 
 impl DecoderState {
@@ -55,27 +69,30 @@ impl DecoderState {
     {
         match self {
             DecoderState::Idle => match byte {
-                0 => gives(DecoderState::Idle, DecodeResult::NoData),
-                code => gives(DecoderState::opened(code), DecodeResult::DataStart),
+                0 => gives(DecoderState::Idle, Ok(DecodeResult::NoData)),
+                code => gives(DecoderState::opened(code), Ok(DecodeResult::DataStart)),
             },
             DecoderState::Grab(left) => match byte {
                 0 => gives(DecoderState::Idle, at_zero(left)),
                 n => {
                     if left == 0 {
-                        return gives(DecoderState::opened(n), DecodeResult::DataContinue(0));
+                        return gives(DecoderState::opened(n), Ok(DecodeResult::DataContinue(0)));
                     }
-                    gives(DecoderState::Grab(left - 1), DecodeResult::DataContinue(n))
+                    gives(
+                        DecoderState::Grab(left - 1),
+                        Ok(DecodeResult::DataContinue(n)),
+                    )
                 }
             },
             DecoderState::GrabChain(left) => match byte {
                 0 => gives(DecoderState::Idle, at_zero(left)),
                 n => {
                     if left == 0 {
-                        return gives(DecoderState::opened(n), DecodeResult::NoData);
+                        return gives(DecoderState::opened(n), Ok(DecodeResult::NoData));
                     }
                     gives(
                         DecoderState::GrabChain(left - 1),
-                        DecodeResult::DataContinue(n),
+                        Ok(DecodeResult::DataContinue(n)),
                     )
                 }
             },
@@ -83,11 +100,10 @@ impl DecoderState {
     }
 
     /// Takes one byte where the state stands: `step`, and the next state written back.
-    pub fn feed(&mut self, data: u8) -> DecodeResult
+    pub fn feed(&mut self, data: u8) -> Result<DecodeResult, EarlyZero>
         ensures { Feeds self.old «data» result self.new }
     {
-        let state = *self;
-        let next = state.step(data);
+        let next = self.step(data);
         *self = next.state;
         next.result
     }
@@ -105,18 +121,21 @@ pub fn fed(state: DecoderState, data: u8) -> Stepped
     }
 }
 
-fn gives(state: DecoderState, res: DecodeResult) -> Stepped
-    ensures { result ≡ gives state res }
+fn gives(state: DecoderState, given: Result<DecodeResult, EarlyZero>) -> Stepped
+    ensures { result ≡ gives state given }
 {
-    Stepped { state, result: res }
+    Stepped {
+        state,
+        result: given,
+    }
 }
 
 // What a zero gives, with so many bytes of the group to come.
-fn at_zero(left: u8) -> DecodeResult
+fn at_zero(left: u8) -> Result<DecodeResult, EarlyZero>
     ensures { result ≡ at_zero left }
 {
     if left == 0 {
-        return DecodeResult::DataComplete;
+        return Ok(DecodeResult::DataComplete);
     }
-    DecodeResult::InvalidFrame
+    Err(EarlyZero)
 }

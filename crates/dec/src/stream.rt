@@ -1,44 +1,57 @@
 //! The streaming decoder: pieces in, frames out.
 ghost use Rattle.std.specs.Prelude.{◌≡◌, [], ◌∷◌, ◌-◌, ◌≤◌, ◌<◌, eqb, length, if◌then◌else◌};
-ghost use Rattle.dec.specs.Helpers.{inside, Ahead, Bytes};
-ghost use Rattle.dec.specs.Stream.{at, new, skipping, is_idle, bad, goes, stops, told, outcome, further, byte_outcome, byte_dest, push_outcome, push_dest};
+ghost use Rattle.dec.specs.Helpers.{open_at, Ahead};
+ghost use Rattle.dec.specs.Stream.{at, new, skipping, bad, goes, stops, told, outcome, further, byte_outcome, byte_dest, push_outcome, push_dest};
 
 use crate::fast::{Open, Reached, by_sixteen, bytes};
 use crate::state::{DecodeResult, DecoderState};
+use std::error::Error;
+use std::fmt;
 
 /// The write place in the destination, whether the rest of an overfull frame is being skipped, and the state.
-#[derive(Clone, Copy)]
+#[derive(Clone, Copy, Debug, PartialEq, Eq)]
 pub struct CobsDecoder {
     pub place: usize,
     pub skip: bool,
     pub state: DecoderState,
 }
 
-/// What a piece gives. `parsed` and `consumed` count its bytes up to and with the one that stopped it.
-#[derive(Clone, Copy)]
-pub enum PushAnswer {
-    More,
-    Frame { size: usize, parsed: usize },
+/// A frame: its size, and how many bytes of the source were parsed, up to and with its zero.
+#[derive(Clone, Copy, Debug, PartialEq, Eq)]
+pub struct Frame {
+    pub size: usize,
+    pub parsed: usize,
+}
+
+/// Why a piece gave no frame. `consumed` counts its bytes up to and with the one that stopped it.
+#[derive(Clone, Copy, Debug, PartialEq, Eq)]
+pub enum PushError {
     InvalidFrame { decoded: usize, consumed: usize },
     TargetBufTooSmall { consumed: usize },
     BadState,
 }
 
-/// The decoder after a byte or a piece, and the answer.
-#[derive(Clone, Copy)]
-pub struct Pushed {
-    pub next: CobsDecoder,
-    pub answer: PushAnswer,
+impl fmt::Display for PushError {
+    fn fmt<W: fmt::Write>(&self, f: &mut fmt::Formatter<W>) -> fmt::Result {
+        match self {
+            PushError::InvalidFrame { decoded, consumed } => {
+                write!(f, "InvalidFrame {decoded}, consumed {consumed}")
+            }
+            PushError::TargetBufTooSmall { consumed } => {
+                write!(f, "TargetBufTooSmall, consumed {consumed}")
+            }
+            PushError::BadState => f.write_str("BadState"),
+        }
+    }
 }
 
-fn is_idle(state: DecoderState) -> bool
-    ensures { result ≡ is_idle state }
-{
-    match state {
-        DecoderState::Idle => true,
-        DecoderState::Grab(_) => false,
-        DecoderState::GrabChain(_) => false,
-    }
+impl Error for PushError {}
+
+/// The decoder after a byte or a piece, and the answer: a frame, or none where the piece is used up.
+#[derive(Clone, Copy, Debug, PartialEq, Eq)]
+pub struct Pushed {
+    pub next: CobsDecoder,
+    pub answer: Result<Option<Frame>, PushError>,
 }
 
 // The piece goes on, with the decoder at this place and state.
@@ -51,12 +64,12 @@ fn going(place: usize, state: DecoderState) -> Pushed
             skip: false,
             state,
         },
-        answer: PushAnswer::More,
+        answer: Ok(None),
     }
 }
 
 // A frame or a refusal ends the piece, and the next byte starts fresh.
-fn ended(answer: PushAnswer) -> Pushed
+fn ended(answer: Result<Option<Frame>, PushError>) -> Pushed
     ensures { outcome result ≡ stops new (told answer) }
 {
     Pushed {
@@ -72,59 +85,28 @@ struct Went {
     i: usize,
 }
 
-// The decoder inside a group, from its numbers.
-fn from_numbers(r: Reached) -> Went
-    requires { Bytes r.code r.left }
-    ensures { (result.i ≡ r.i) × (result.next ≡ inside r.code r.left r.place) }
+// Inside a group: by sixteen bytes as far as that goes, then up to the group's end.
+fn run(piece: &[u8], from: usize, dest: &mut [u8], to: usize, opened: Open) -> Went
+    requires { (from ≤ length piece.now) × (to ≤ length dest.old) }
+    ensures within { (from ≤ result.i) × (result.i ≤ length piece.now) }
+    ensures decoded { Ahead (length dest.old) piece.now from (open_at opened to) dest.old result.i result.next dest.new }
 {
-    let left = r.left as u8;
-    let place = r.place;
-    let i = r.i;
-    if r.code == 0xFF {
-        return Went {
-            next: CobsDecoder {
-                place,
-                skip: false,
-                state: DecoderState::GrabChain(left),
-            },
-            i,
-        };
-    }
+    let Reached { i, place, group } = by_sixteen(piece, from, dest, to, opened);
+    let left = usize::from(group.left);
+    let most = left.min(piece.len() - i).min(dest.len() - place);
+    let k = bytes(piece, i, dest, place, most);
+    let rest = Open {
+        code: group.code,
+        left: (left - k) as u8,
+    };
     Went {
         next: CobsDecoder {
-            place,
+            place: place + k,
             skip: false,
-            state: DecoderState::Grab(left),
+            state: rest.state(),
         },
-        i,
-    }
-}
-
-fn least(a: usize, b: usize) -> usize
-    ensures { (result ≤ a) × (result ≤ b) }
-{
-    if a < b { a } else { b }
-}
-
-// Inside a group: by sixteen bytes as far as that goes, then one by one to the group's end.
-fn run(piece: &[u8], from: usize, dest: &mut [u8], to: usize, opened: Open) -> Went
-    requires from_in_bounds { (from ≤ length piece.now) × (to ≤ length dest.old) }
-    requires bytes { Bytes opened.code opened.left }
-    ensures within { (from ≤ result.i) × (result.i ≤ length piece.now) }
-    ensures decoded { Ahead (length dest.old) piece.now from (inside opened.code opened.left to) dest.old result.i result.next dest.new }
-{
-    let r = by_sixteen(piece, from, dest, to, opened);
-    let i = r.i;
-    let place = r.place;
-    let left = r.left;
-    let most = least(left, least(piece.len() - i, dest.len() - place));
-    let k = bytes(piece, i, dest, place, most);
-    from_numbers(Reached {
         i: i + k,
-        place: place + k,
-        code: r.code,
-        left: left - k,
-    })
+    }
 }
 
 impl CobsDecoder {
@@ -153,14 +135,13 @@ impl CobsDecoder {
     fn bad(self, room: usize) -> bool
         ensures { result ≡ bad self room }
     {
-        let state = self.state;
         if room < self.place {
             return true;
         }
-        if is_idle(state) {
-            return 0 < self.place;
+        match self.state {
+            DecoderState::Idle => 0 < self.place,
+            _ => self.skip,
         }
-        self.skip
     }
 
     // A byte while the rest of an overfull frame is skipped.
@@ -170,12 +151,12 @@ impl CobsDecoder {
         if byte == 0 {
             return Pushed {
                 next: CobsDecoder::new(),
-                answer: PushAnswer::More,
+                answer: Ok(None),
             };
         }
         Pushed {
             next: self,
-            answer: PushAnswer::More,
+            answer: Ok(None),
         }
     }
 
@@ -192,28 +173,28 @@ impl CobsDecoder {
         }
         let stepped = state.step(byte);
         let after = stepped.state;
-        let result = stepped.result;
-        match result {
-            DecodeResult::NoData => going(place, after),
-            DecodeResult::DataStart => going(place, after),
-            DecodeResult::DataComplete => ended(PushAnswer::Frame {
+        let Ok(given) = stepped.result else {
+            return ended(Err(PushError::InvalidFrame {
+                decoded: place,
+                consumed,
+            }));
+        };
+        match given {
+            DecodeResult::NoData | DecodeResult::DataStart => going(place, after),
+            DecodeResult::DataComplete => ended(Ok(Some(Frame {
                 size: place,
                 parsed: consumed,
-            }),
+            }))),
             DecodeResult::DataContinue(b) => {
                 if dest.len() <= place {
                     return Pushed {
                         next: CobsDecoder::skipping(),
-                        answer: PushAnswer::TargetBufTooSmall { consumed },
+                        answer: Err(PushError::TargetBufTooSmall { consumed }),
                     };
                 }
                 dest[place] = b;
                 going(place + 1, after)
             }
-            DecodeResult::InvalidFrame => ended(PushAnswer::InvalidFrame {
-                decoded: place,
-                consumed,
-            }),
         }
     }
 
@@ -224,36 +205,18 @@ impl CobsDecoder {
         ensures decoded { Ahead (length dest.old) piece.now i self dest.old result.i result.next dest.new }
     {
         let place = self.place;
-        let state = self.state;
         if self.skip {
             return Went { next: self, i };
         }
         if dest.len() < place {
             return Went { next: self, i };
         }
-        match state {
-            DecoderState::Idle => Went { next: self, i },
-            DecoderState::Grab(left) => run(
-                piece,
-                i,
-                dest,
-                place,
-                Open {
-                    code: 1,
-                    left: left as usize,
-                },
-            ),
-            DecoderState::GrabChain(left) => run(
-                piece,
-                i,
-                dest,
-                place,
-                Open {
-                    code: 0xFF,
-                    left: left as usize,
-                },
-            ),
-        }
+        let opened = match self.state {
+            DecoderState::Idle => return Went { next: self, i },
+            DecoderState::Grab(left) => Open { code: 1, left },
+            DecoderState::GrabChain(left) => Open { code: 0xFF, left },
+        };
+        run(piece, i, dest, place, opened)
     }
 
     /// One byte, as a piece of that byte alone.
@@ -264,7 +227,7 @@ impl CobsDecoder {
         if self.bad(dest.len()) {
             return Pushed {
                 next: self,
-                answer: PushAnswer::BadState,
+                answer: Err(PushError::BadState),
             };
         }
         self.take(dest, byte, 1)
@@ -278,11 +241,12 @@ impl CobsDecoder {
         if self.bad(dest.len()) {
             return Pushed {
                 next: self,
-                answer: PushAnswer::BadState,
+                answer: Err(PushError::BadState),
             };
         }
         let mut decoder = self;
         let mut i: usize = 0;
+        // Not a `for`: `ahead` goes on by as many bytes as ask for no answer.
         loop {
             let went = decoder.ahead(dest, piece, i);
             let further = went.next;
@@ -290,16 +254,15 @@ impl CobsDecoder {
             if i == piece.len() {
                 return Pushed {
                     next: further,
-                    answer: PushAnswer::More,
+                    answer: Ok(None),
                 };
             }
             let byte = piece[i];
             i += 1;
             let taken = further.take(dest, byte, i);
-            let answer = taken.answer;
-            let PushAnswer::More = answer else {
+            if taken.answer != Ok(None) {
                 return taken;
-            };
+            }
             decoder = taken.next;
         }
     }

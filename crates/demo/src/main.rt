@@ -8,6 +8,7 @@ mod sender;
 
 ghost use Rattle.std.specs.Prelude.{◌≡◌, length};
 
+use batch::Standing;
 use std::io;
 use wire::Wire;
 
@@ -31,12 +32,12 @@ fn round(
     say::text(rt, heading)?;
     let mut stream = [0u8; 4_096];
     let n = sender::send(order, &mut stream);
-    receiving::deliver(rt, wire, buffer, table, order, &stream, n)
+    receiving::deliver(rt, wire, buffer, table, order, &stream[..n])
 }
 
 fn last(rt: &impl Print, wire: Wire, table: &[u8]) -> io::Result<()> {
     let receiver = wire.receiver;
-    if let batch::Standing::Complete = batch::stands(receiver, table) {
+    if let Ok(Standing::Complete) = batch::stands(receiver, table) {
         say::text(
             rt,
             b"Complete: each particle was weighed once, and the total is the sender's.\n",

@@ -1,9 +1,10 @@
 //! The receiving side: pieces in, and a line for each frame's answer.
-ghost use Rattle.std.specs.Prelude.{◌≤◌, ◌<◌, length};
+ghost use Rattle.std.specs.Prelude.{◌≤◌};
 
 use crate::say;
+use batch::Standing;
 use std::io;
-use wire::{Receipt, Received, Wire};
+use wire::{Receipt, Refusal, Wire};
 
 // Both states, how many frames have ended, and in how many pieces the next one has come.
 #[derive(Drop)]
@@ -19,25 +20,16 @@ fn numbered(rt: &impl Print, name: &[u8], k: usize) -> io::Result<()> {
 }
 
 // The answer, in a column of eleven.
-fn answered(rt: &impl Print, found: Received) -> io::Result<()> {
+fn answered(rt: &impl Print, found: Result<Option<Standing>, Refusal>) -> io::Result<()> {
     match found {
-        Received::Open => say::text(rt, b"Open       "),
-        Received::Missing(k) => {
+        Ok(Some(Standing::Open)) => say::text(rt, b"Open       "),
+        Ok(Some(Standing::Missing(k))) => {
             numbered(rt, b"Missing ", k)?;
             say::text(rt, b" ")
         }
-        Received::Complete => say::text(rt, b"Complete   "),
+        Ok(Some(Standing::Complete)) => say::text(rt, b"Complete   "),
         _ => say::text(rt, b"refused    "),
     }
-}
-
-fn in_pieces(rt: &impl Print, n: usize) -> io::Result<()> {
-    say::text(rt, b"  in ")?;
-    say::number(rt, n)?;
-    if n == 1 {
-        return say::text(rt, b" piece    ");
-    }
-    say::text(rt, b" pieces   ")
 }
 
 fn weighed(wire: Wire) -> usize {
@@ -55,41 +47,29 @@ fn line(
     rt: &impl Print,
     frame: u8,
     pieces: usize,
-    found: Received,
+    found: Result<Option<Standing>, Refusal>,
     before: Wire,
     after: Wire,
 ) -> io::Result<()> {
-    say::text(rt, b"  frame ")?;
-    say::two(rt, frame as usize)?;
-    in_pieces(rt, pieces)?;
+    let unit = if pieces == 1 { "piece" } else { "pieces" };
+    print!(rt; "  frame {frame:2}  in {pieces} {unit:9}")?;
     answered(rt, found)?;
-    say::six(rt, weighed(after))?;
-    say::text(rt, b" weighed, total ")?;
-    say::six(rt, total(after))?;
-    if weighed(before) == weighed(after) {
-        say::text(rt, b"; no new particle")?;
-    }
-    say::text(rt, b"\n")
+    let count = weighed(after);
+    let sum = total(after);
+    let news = if weighed(before) == count {
+        "; no new particle"
+    } else {
+        ""
+    };
+    println!(rt; "{count:6} weighed, total {sum:6}{news}")
 }
 
-// The number of the frame that ended.
-fn number_in(order: &[u8], i: usize) -> u8 {
-    if i < order.len() {
-        return order[i];
-    }
-    255
-}
-
-fn one_more(n: usize) -> usize {
-    if n < 1_000 { n + 1 } else { n }
-}
-
-// What a call said: a piece inside a frame, or the frame's end.
+// What a call said: a piece inside a frame, or the frame's end. A frame that was not sent is called 255.
 fn heard(rt: &impl Print, p: Progress, r: Receipt, order: &[u8]) -> io::Result<Progress> {
     let found = r.answer;
     let wire = r.next;
-    let pieces = one_more(p.pieces);
-    if let Received::More = found {
+    let pieces = p.pieces.saturating_add(1);
+    if let Ok(None) = found {
         return Ok(Progress {
             wire,
             frames: p.frames,
@@ -97,29 +77,16 @@ fn heard(rt: &impl Print, p: Progress, r: Receipt, order: &[u8]) -> io::Result<P
         });
     }
     let before = p.wire;
-    line(rt, number_in(order, p.frames), pieces, found, before, wire)?;
+    let frame = order.get(p.frames).copied().unwrap_or(255);
+    line(rt, frame, pieces, found, before, wire)?;
     Ok(Progress {
         wire,
-        frames: one_more(p.frames),
+        frames: p.frames.saturating_add(1),
         pieces: 0,
     })
 }
 
-// So many bytes on, but at least one, and not past the end.
-fn onward(at: usize, bytes: usize, end: usize) -> usize
-    requires { at < end }
-    ensures { (at < result) × (result ≤ end) }
-{
-    if bytes < 1 {
-        return at + 1;
-    }
-    if end - at < bytes {
-        return end;
-    }
-    at + bytes
-}
-
-// A piece: call after call while bytes of it are left.
+// A piece: call after call while bytes of it are left; one that takes none passes over one.
 fn take(
     rt: &impl Print,
     p: Progress,
@@ -129,22 +96,24 @@ fn take(
     piece: &[u8],
 ) -> io::Result<Progress> {
     let mut now = p;
-    let mut at = 0;
-    while at < piece.len() {
-        let receipt = wire::receive(now.wire, buffer, table, &piece[at..]);
-        let end = onward(at, receipt.consumed, piece.len());
+    let mut left = piece;
+    while !left.is_empty() {
+        let receipt = wire::receive(now.wire, buffer, table, left);
+        let taken = receipt.consumed.clamp(1, left.len());
         now = heard(rt, now, receipt, order)?;
-        at = end;
+        left = &left[taken..];
     }
     Ok(now)
 }
 
 // How long the piece from here on is: 1 to 97 bytes.
-fn cut(at: usize) -> usize {
+fn cut(at: usize) -> usize
+    ensures { 1 ≤ result }
+{
     (at % 97) * 29 % 97 + 1
 }
 
-/// The first n bytes of the stream, in pieces, and the states after them.
+/// The stream in pieces, and the states after them.
 pub(crate) fn deliver(
     rt: &impl Print,
     wire: Wire,
@@ -152,20 +121,18 @@ pub(crate) fn deliver(
     table: &mut [u8],
     order: &[u8],
     stream: &[u8],
-    n: usize,
-) -> io::Result<Wire>
-    requires { n ≤ length stream.now }
-{
+) -> io::Result<Wire> {
     let mut p = Progress {
         wire,
         frames: 0,
         pieces: 0,
     };
-    let mut at = 0;
-    while at < n {
-        let end = onward(at, cut(at), n);
-        p = take(rt, p, buffer, table, order, &stream[at..end])?;
-        at = end;
+    let mut left = stream;
+    while !left.is_empty() {
+        let at = stream.len() - left.len();
+        let (piece, rest) = left.split_at(cut(at).min(left.len()));
+        p = take(rt, p, buffer, table, order, piece)?;
+        left = rest;
     }
     Ok(p.wire)
 }

@@ -3,7 +3,6 @@ ghost use Rattle.std.specs.Prelude.{◌≤◌, length};
 
 use crate::say;
 use record::Record;
-use record::frame::FrameWritten;
 use std::io;
 
 const BATCH: u16 = 7;
@@ -44,15 +43,11 @@ fn message(k: u8, out: &mut [u8]) -> usize {
         return 16;
     }
     let first = (k as u16) * EACH;
-    let mut j: u16 = 0;
-    while j < EACH {
-        if COUNT <= first + j {
-            return (j as usize) * 16;
-        }
-        blocks::copy16(out, (j as usize) * 16, &particle(first + j), 0);
-        j += 1;
+    let end = COUNT.min(first + EACH);
+    for i in first..end {
+        blocks::copy16(out, ((i - first) as usize) * 16, &particle(i), 0);
     }
-    128
+    ((end - first) as usize) * 16
 }
 
 // The first n bytes as a frame, and its length.
@@ -60,11 +55,7 @@ fn framed(bytes: &[u8], n: usize, out: &mut [u8]) -> usize {
     if bytes.len() < n {
         return 0;
     }
-    let written = record::frame::write_frame(&bytes[..n], out);
-    if let FrameWritten::Length(length) = written {
-        return length;
-    }
-    0
+    record::frame::write_frame(&bytes[..n], out).unwrap_or(0)
 }
 
 // Frame k on the wire, and its length.
@@ -79,14 +70,12 @@ pub(crate) fn send(order: &[u8], out: &mut [u8]) -> usize
     ensures { result ≤ length out.old }
 {
     let mut at = 0;
-    let mut i = 0;
-    while i < order.len() {
-        let n = frame(order[i], &mut out[at..]);
+    for k in order {
+        let n = frame(*k, &mut out[at..]);
         if out.len() - at < n {
             return at;
         }
         at += n;
-        i += 1;
     }
     at
 }

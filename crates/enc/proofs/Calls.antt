@@ -1,27 +1,24 @@
 -- What each streaming call answers and leaves. Assumes nothing.
-use Rattle.std.specs.Prelude.{if◌then◌else◌}
+use Rattle.std.specs.Prelude.{Result, Ok, Err, if◌then◌else◌}
 use mathlib.Core.Path.{◌≡◌, refl, subst, ◌∙◌}
 use mathlib.Core.Bool.{Bool, true, false}
-use mathlib.Core.List.{List, [], ◌∷◌}
+use mathlib.Core.List.{List}
 use Prim.Native.Nat.{ℕ, ◌+◌, ◌^◌, ◌≤◌, ◌<◌}
 use native.Mathlib.Omega.{arith}
-use types.Run.{OneOf, miss}
-use denote.Enum.Declared.{tag_of}
 use lib.ListN.{length, set}
 use lib.Dec.{eqb}
 use borrow.Author.Tests.{eqb-false, lt-ltb, le-ltb}
 use Rattle.cobs.specs.Answers.{Told, done, too_long, dest_buf_too_small, bad_state, longest, is_done}
+use Rattle.cobs.specs.declared.refusals.BadState.{BadState}
+use Rattle.cobs.specs.declared.refusals.DestBufTooSmall.{DestBufTooSmall}
 use Rattle.cobs.proofs.Told.{unlike}
 use Rattle.enc.specs.State.{state_finalize}
 use Rattle.enc.specs.Stream.{fresh, move_all, write_all, finished_length, is_bad, closed, started, told, push_told, push_next, push_dest, finish_told, finish_dest}
 use Rattle.enc.specs.declared.state.EncoderState.{EncoderState}
-use Rattle.enc.specs.declared.state.StateFinished.{StateFinished}
-use Rattle.enc.specs.declared.state.StateFinished.TheVariants.{Modify, BadState}
+use Rattle.enc.specs.declared.state.Modify.{Modify}
 use Rattle.enc.specs.declared.stream.Encoder.{Encoder}
-use Rattle.enc.specs.declared.stream.Started.TheVariants as start
-use Rattle.enc.specs.declared.stream.Accepted.{Accepted}
-use Rattle.enc.specs.declared.stream.Accepted.TheVariants as accept
-use Rattle.enc.specs.contracts.stream.Accepted.{the_type}
+use Rattle.enc.specs.declared.stream.PushError.{PushError}
+use Rattle.enc.specs.declared.stream.PushError.TheVariants as error
 use Rattle.enc.proofs.Deciding.{by_lt}
 use Rattle.enc.proofs.Steps.{Sound, sound}
 use Rattle.enc.proofs.Pieces.{Good, good, place-finished}
@@ -33,11 +30,11 @@ good-sound e room g h = record { group = g.group; low = omega (arith, g.fits, pl
 -- ---- start
 
 -- an encoder that `start` gave is fresh, and its buffer is not empty
-pub ready_fresh : (room : ℕ) (e : Encoder) → started room ≡ start.Ready e → (0 < room) × (e ≡ fresh)
+pub ready_fresh : (room : ℕ) (e : Encoder) → started room ≡ Ok e → (0 < room) × (e ≡ fresh)
 unfolding started
 ready_fresh room e q = go (eqb room 0) refl q
   where
-    go : (t : Bool) → eqb room 0 ≡ t → (if t then start.DestBufTooSmall else start.Ready fresh) ≡ start.Ready e → (0 < room) × (e ≡ fresh)
+    go : (t : Bool) → eqb room 0 ≡ t → ◌≡◌ {A = Result Encoder DestBufTooSmall} (if t then Err record {} else Ok fresh) (Ok e) → (0 < room) × (e ≡ fresh)
     go true h k = let z : ◌≡◌ {A = ℕ} 0 1 = cc in absurd (omega arith)
     go false h k = let n = eqb-false room 0 h in (omega arith, cc)
 
@@ -94,34 +91,33 @@ push-taken e p room =
     (λ g h k q. absurd (unlike q (λ z. omega arith)))
     (λ g h k q. record { good = g; few = h; fits = k })
 
-refused : (a : Accepted) → OneOf (1 ∷ 2 ∷ 3 ∷ []) (tag_of the_type a) → is_done (told a) ≡ false
-refused accept.Accepted h = absurd (miss (1 ∷ 2 ∷ 3 ∷ []) 0 tt h)
-refused accept.BadState h = refl
-refused accept.TooLong h = refl
-refused accept.DestBufTooSmall h = refl
+undone : (r : PushError) → is_done (told (Err r)) ≡ false
+undone error.BadState = refl
+undone error.TooLong = refl
+undone error.DestBufTooSmall = refl
 
-module _ (e : Encoder) (p d : List ℕ) (a : Accepted) (q : told a ≡ push_told e p (length d)) where
-  pub push-refused : OneOf (1 ∷ 2 ∷ 3 ∷ []) (tag_of the_type a) → (told a ≡ push_told e p (length d)) × ((e ≡ push_next e p (length d)) × (d ≡ push_dest e p d))
+module _ (e : Encoder) (p d : List ℕ) where
+  pub push-refused : (r : PushError) → told (Err r) ≡ push_told e p (length d) → (e ≡ push_next e p (length d)) × (d ≡ push_dest e p d)
   unfolding push_next push_dest
-  push-refused h = (q, rw (← q, refused a h) (refl, refl))
+  push-refused r q = rw (← q, undone r) (refl, refl)
 
-  pub push-accepted : a ≡ accept.Accepted → (e' : Encoder) (d' : List ℕ) → e' ≡ move_all e p → d' ≡ write_all e p d
-      → (done 0 0 ≡ push_told e p (length d)) × ((e' ≡ push_next e p (length d)) × (d' ≡ push_dest e p d))
+  pub push-accepted : done 0 0 ≡ push_told e p (length d) → (move_all e p ≡ push_next e p (length d)) × (write_all e p d ≡ push_dest e p d)
   unfolding push_next push_dest
-  push-accepted h e' d' qe qd = rw (← q, h, qe, qd) (refl, (refl, refl))
+  push-accepted q = rw (← q) (refl, refl)
 
 -- ---- finalize
 
-module _ (s : EncoderState) (g : Sound s) (r : StateFinished) (q : r ≡ state_finalize s) where
-  finalized : r ≡ Modify s.place s.code
+-- a sound state asks for its code at its place
+module _ (s : EncoderState) (g : Sound s) where
+  finalized : state_finalize s ≡ Ok record { place = s.place; code = s.code }
   unfolding state_finalize
-  finalized = q ∙ rw ((sound s).none g)
+  finalized = rw ((sound s).none g)
 
-  pub finalize-asks : (place code : ℕ) → r ≡ Modify place code → (place ≡ s.place) × (code ≡ s.code)
-  finalize-asks place code k = let f = finalized in (cc, cc)
+  pub finalize-asks : (m : Modify) → Ok m ≡ state_finalize s → (m.place ≡ s.place) × (m.code ≡ s.code)
+  finalize-asks m q = let f = q ∙ finalized in (cc, cc)
 
-  pub finalize_not_bad : r ≡ BadState → ⊥
-  finalize_not_bad k = let f = finalized in let z : ◌≡◌ {A = ℕ} 0 1 = cc in omega arith
+  pub finalize_not_bad : (e : BadState) → Err e ≡ state_finalize s → ⊥
+  finalize_not_bad e q = let f = q ∙ finalized in let z : ◌≡◌ {A = ℕ} 0 1 = cc in omega arith
 
 module _ (e : Encoder) (d : List ℕ) where
   pub finish-bad : is_bad e (length d) ≡ true → (bad_state ≡ finish_told e (length d)) × (d ≡ finish_dest e d)

@@ -1,7 +1,8 @@
 -- The three forms of output: what a one-shot call answers and leaves, each way out. Assumes nothing.
-use Rattle.std.specs.Prelude.{if◌then◌else◌}
+use Rattle.std.specs.Prelude.{Result, Ok, Err, IsErrAnd}
+use Rattle.std.proofs.Common.{rules}
+use Rattle.std.proofs.lemmas.Result.{err_from_is_err_and}
 use mathlib.Core.Path.{◌≡◌, refl, sym, ap, ◌∙◌}
-use mathlib.Core.Bool.{Bool, true, false}
 use mathlib.Core.List.{List, [], ◌∷◌, append-nil}
 use Prim.Native.Nat.{ℕ, suc, ◌+◌, ◌-◌, ◌≤◌, ◌<◌}
 use native.Mathlib.Numerals.{add-one}
@@ -9,66 +10,46 @@ use native.Mathlib.Omega.{arith}
 use lib.ListN.{length, take, drop, set, length-append, length-set}
 use lib.Seq.{take-append_seam, drop-append_seam, take-length, drop-length}
 use borrow.Rule.Slice.PartMut.{put_mid}
-use borrow.Author.Tests.{lt-ltb, le-ltb, ltb-true, ltb-false}
-use Rattle.cobs.specs.Words.{◌exceeds◌}
-use Rattle.cobs.specs.Code.{encode, max_length, over, masked}
-use Rattle.cobs.specs.Answers.{Told, done, too_long, dest_buf_too_small, longest}
+use borrow.Author.Tests.{lt-ltb, le-ltb}
+use Rattle.cobs.specs.Code.{encode, over, masked}
+use Rattle.cobs.specs.Answers.{done, too_long, dest_buf_too_small, longest}
 use Rattle.cobs.specs.OneShot.{Form, plain, zeros_around, chosen, finished, encode_told, encode_dest}
-use Rattle.cobs.specs.Lengths.{told, length_told}
-use Rattle.cobs.specs.declared.Length.{Length}
-use Rattle.cobs.specs.declared.Length.TheVariants.{Bytes, TooLong}
-use Rattle.cobs.proofs.Told.{unlike}
+use Rattle.cobs.specs.Lengths.{length_told}
+use Rattle.cobs.specs.declared.refusals.DestBufTooSmall.{DestBufTooSmall}
+use Rattle.cobs.proofs.Lengths.{length_ok, length_err}
 use Rattle.cobs.proofs.Over.{length_over, over_snoc, over-fits}
 use Rattle.cobs.proofs.Sentinel.{length-masked}
 use Rattle.blocks.specs.Blocks.{masked_front}
 use Rattle.enc.specs.Fast.{room_for}
-use Rattle.enc.specs.declared.oneshot.Room.{Room}
-use Rattle.enc.specs.declared.oneshot.Room.TheVariants.{Fits, DestBufTooSmall}
-use Rattle.enc.proofs.Deciding.{by_lt}
+use Rattle.enc.specs.OneShot.{told}
+use Rattle.enc.specs.declared.oneshot.EncodeError.{EncodeError}
 
--- ---- what the greatest length says of the message, and the room of its encoding
-
-module _ (n : ℕ) (r : Length) (q : told r ≡ length_told n) where
-  pub most-told : (most : ℕ) → r ≡ Bytes most → (n ≤ longest) × (most ≡ max_length n)
-  unfolding length_told
-  most-told most k = go (n exceeds longest) refl (sym (ap told k) ∙ q)
-    where
-      go : (t : Bool) → (n exceeds longest) ≡ t → done most 0 ≡ (if t then too_long else done (max_length n) 0) → (n ≤ longest) × (most ≡ max_length n)
-      go true t e = absurd (unlike e (λ z. omega arith))
-      go false t e = (ltb-false longest n t, ap (λ (w : Told). w.first) e)
-
-  long-told : r ≡ TooLong → longest < n
-  unfolding length_told
-  long-told k = go (n exceeds longest) refl (sym (ap told k) ∙ q)
-    where
-      go : (t : Bool) → (n exceeds longest) ≡ t → too_long ≡ (if t then too_long else done (max_length n) 0) → longest < n
-      go true t e = ltb-true longest n t
-      go false t e = absurd (unlike e (λ z. omega arith))
+-- ---- what is said of the room
 
 module _ (m : List ℕ) (room : ℕ) where
-  pub fits_is : length (encode m) ≤ room → Fits ≡ room_for m room
+  pub fits_is : length (encode m) ≤ room → Ok tt ≡ room_for m room
   fits_is h = rw (le-ltb room (length (encode m)) h)
 
-  pub small_is : room < length (encode m) → DestBufTooSmall ≡ room_for m room
-  small_is h = rw (lt-ltb room (length (encode m)) h)
+  pub fits-says : Ok tt ≡ room_for m room → length (encode m) ≤ room
+  fits-says q = search rules
 
-  module _ (r : Room) (q : r ≡ room_for m room) where
-    pub fits-says : r ≡ Fits → length (encode m) ≤ room
-    fits-says k = by_lt room (length (encode m)) (λ h. let e = sym k ∙ q ∙ sym (small_is h) in let z : ◌≡◌ {A = ℕ} 0 1 = cc in absurd (omega arith)) (λ h. h)
+  pub small-says : (e : DestBufTooSmall) → Err e ≡ room_for m room → room < length (encode m)
+  small-says e q = search rules
 
-    pub small-says : r ≡ DestBufTooSmall → room < length (encode m)
-    small-says k = by_lt room (length (encode m)) (λ h. h) (λ h. let e = sym k ∙ q ∙ sym (fits_is h) in let z : ◌≡◌ {A = ℕ} 0 1 = cc in absurd (omega arith))
+-- a refusal that became one of this call's
+pub refused : (r : Result ℕ EncodeError) (x : EncodeError) → IsErrAnd r (λ e. e ≡ x) → told r ≡ told (Err x)
+refused r x h = let p = err_from_is_err_and r h in rw (p.1, p.2)
 
--- ---- each way out, whatever the form; r is what is answered for the greatest length
+-- ---- each way out, whatever the form
 
-module _ (form : Form) (m d : List ℕ) (r : Length) (q : told r ≡ length_told (length m)) where
-  pub form_long : r ≡ TooLong → (too_long ≡ encode_told form m (length d)) × (d ≡ encode_dest form m d)
+module _ (form : Form) (m d : List ℕ) where
+  pub form_long : too_long ≡ length_told (length m) → (too_long ≡ encode_told form m (length d)) × (d ≡ encode_dest form m d)
   unfolding encode_told encode_dest
-  form_long k = rw (lt-ltb longest (length m) (long-told (length m) r q k)) (refl, refl)
+  form_long q = rw (lt-ltb longest (length m) (length_err (length m) q)) (refl, refl)
 
-  module _ (most : ℕ) (k : r ≡ Bytes most) where
+  module _ (most : ℕ) (q : done most 0 ≡ length_told (length m)) where
     few : length m ≤ longest
-    few = (most-told (length m) r q most k).0
+    few = (length_ok (length m) most q).0
 
     pub form_small : length d < length (finished form m) → (dest_buf_too_small ≡ encode_told form m (length d)) × (d ≡ encode_dest form m d)
     unfolding encode_told encode_dest

@@ -120,8 +120,8 @@ module _ (e : Encoder) (d d' : List ℕ) (q : closed e d ≡ closed e d') where
     unfolding moved wrote
     alike-wrote =
         by-step
-        (λ t. let e' : Encoder = record { state = t.next; full = closes_full t.result; count = e.count + 1 } in
-        closed e' (obeyed t.result end d) ≡ closed e' (obeyed t.result end d'))
+        (λ t. let e' : Encoder = record { state = t.1; full = closes_full t.0; count = e.count + 1 } in
+        closed e' (obeyed t.0 end d) ≡ closed e' (obeyed t.0 end d'))
         e.state b (λ z. ap (λ (l : List ℕ). set l end 1) (alike e.state.code)) (λ nz f. alike_end 255) (λ nz nf. alike_end (e.state.code + 1))
 
 pub alike_all : (e : Encoder) (p d d' : List ℕ) → InGroup e.state.code → closed e d ≡ closed e d'

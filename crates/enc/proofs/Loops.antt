@@ -9,23 +9,11 @@ use native.Mathlib.Omega.{arith}
 use lib.ListN.{length, drop, get_or, drop_of_length-le}
 use lib.Seq.{drop-cons}
 use Rattle.cobs.specs.Answers.{longest}
-use Rattle.enc.specs.State.{opened, step, state_push}
-use Rattle.enc.specs.Stream.{obeyed, closes_full, moved, wrote, move_all, write_all, finished_length}
+use Rattle.enc.specs.State.{opened, step}
+use Rattle.enc.specs.Stream.{closes_full, moved, wrote, move_all, write_all, finished_length}
 use Rattle.enc.specs.declared.state.EncoderState.{EncoderState}
-use Rattle.enc.specs.declared.state.StatePushed.{StatePushed}
 use Rattle.enc.specs.declared.stream.Encoder.{Encoder}
-use Rattle.enc.proofs.Steps.{InGroup, Sound, sound-push, group-moved, sum_moved, length-wrote}
-
--- what a sound state answers to a byte moves the encoder
-pub after-moved : (e : Encoder) (b : ℕ) → Sound e.state → (p : StatePushed) → p ≡ state_push e.state b
-    → record { state = p.next; full = closes_full p.result; count = e.count + 1 } ≡ moved e b
-unfolding moved
-after-moved e b g p q = rw (q, sound-push e.state b g)
-
-pub obeyed-wrote : (e : Encoder) (b : ℕ) → Sound e.state → (p : StatePushed) → p ≡ state_push e.state b → (d : List ℕ)
-    → obeyed p.result (e.state.place + e.state.code) d ≡ wrote e b d
-unfolding wrote
-obeyed-wrote e b g p q d = rw (q, sound-push e.state b g)
+use Rattle.enc.proofs.Steps.{InGroup, Sound, group-moved, sum_moved, length-wrote}
 
 -- The loop has taken i bytes of the piece p, from e₀ to e.
 pub record Going (p : List ℕ) (e₀ : Encoder) (i : ℕ) (e : Encoder) : Type 0 where
@@ -36,9 +24,6 @@ pub record Going (p : List ℕ) (e₀ : Encoder) (i : ℕ) (e : Encoder) : Type 
   pub rest : move_all e (drop i p) ≡ move_all e₀ p
 
 module _ (p : List ℕ) (e₀ : Encoder) where
-  pub going_start : InGroup e₀.state.code → Going p e₀ 0 e₀
-  going_start g = record { within = omega arith; group = g; near = omega arith; counted = omega arith; rest = refl }
-
   module _ (i : ℕ) (e : Encoder) (g : Going p e₀ i e) where
     pub going-sound : InGroup e₀.state.code → e₀.state.place < 2 ^ 63 → e₀.count + length p ≤ longest → Sound e.state
     going-sound h low few = record { group = g.group; low = omega (arith, g.near, g.within, h.few) }
@@ -71,9 +56,6 @@ pub record Writing (p : List ℕ) (e₀ : Encoder) (d₀ : List ℕ) (i : ℕ) (
   pub memory : write_all e (drop i p) d ≡ write_all e₀ p d₀
 
 module _ (p : List ℕ) (e₀ : Encoder) (d₀ : List ℕ) where
-  pub writing_start : InGroup e₀.state.code → Writing p e₀ d₀ 0 e₀ d₀
-  writing_start g = record { going = going_start p e₀ g; long = refl; memory = refl }
-
   module _ (i : ℕ) (e : Encoder) (d : List ℕ) (w : Writing p e₀ d₀ i e d) where
     pub writing-on : i < length p → (e' : Encoder) (d' : List ℕ) → e' ≡ moved e (get_or p i 0) → d' ≡ wrote e (get_or p i 0) d
         → Writing p e₀ d₀ (i + 1) e' d'
@@ -98,7 +80,7 @@ pub finished-count : (p : List ℕ) (s : EncoderState) (full : Bool) (m n : ℕ)
     → finished_length (move_all record { state = s; full = full; count = m } p) ≡ finished_length (move_all record { state = s; full = full; count = n } p)
 unfolding move_all moved
 finished-count [] s full m n = refl
-finished-count (b ∷ p) s full m n = finished-count p (step s b).next (closes_full (step s b).result) (m + 1) (n + 1)
+finished-count (b ∷ p) s full m n = finished-count p (step s b).1 (closes_full (step s b).0) (m + 1) (n + 1)
 
 pub counting_end : (p : List ℕ) (e : Encoder) (i place code : ℕ) (full : Bool)
     → Going p (numbered e.state.place e.state.code e.full 0) i (numbered place code full i) → length p ≤ i

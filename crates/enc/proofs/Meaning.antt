@@ -145,8 +145,8 @@ unfolding move_all write_all moved wrote
 claim [] p r d e d' h k = claim_nil p r d e d' h k
 claim (b ∷ m) p r d e d' h k =
     by-step
-    (λ t. let e' : Encoder = record { state = t.next; full = closes_full t.result; count = e.count + 1 } in
-    End (p ++ encode (r ++ b ∷ m)) d (move_all e' m) (write_all e' m (obeyed t.result (e.state.place + e.state.code) d')))
+    (λ t. let e' : Encoder = record { state = t.1; full = closes_full t.0; count = e.count + 1 } in
+    End (p ++ encode (r ++ b ∷ m)) d (move_all e' m) (write_all e' m (obeyed t.0 (e.state.place + e.state.code) d')))
     e.state b
     (λ z. rw z (claim_zero m (claim m) p r d e d' h _ refl refl refl))
     (λ nz f. claim-full b nz p r d e d' h f _ refl refl refl m (claim m))

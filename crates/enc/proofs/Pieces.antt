@@ -125,26 +125,27 @@ good e room =
           ((full-one e.full e.state.code).none g.one);
     }
 
--- the last test of a state: after a full group, and in an open one
-module _ (e : Encoder) (room : ℕ) (c : (e.state.code ≡ 0 → ⊥)) (d : e.state.code ≤ 254) (l : e.state.place ≤ room) (n : e.count ≤ longest) where
-  group : InGroup e.state.code
-  group = record { some = omega arith; few = d }
+-- a test of that meaning which fails
+pub passed : {t : Bool} (e : Encoder) (room : ℕ) → t ≡ is_bad e room → t ≡ false → Good e room
+passed e room p q = (good e room).holds (sym p ∙ q)
 
+-- the last test of a state: after a full group, and in an open one
+module _ (e : Encoder) (room : ℕ) (g : InGroup e.state.code) (l : e.state.place ≤ room) (n : e.count ≤ longest) where
   pub good-full : e.full ≡ true → not (eqb e.state.code 1) ≡ is_bad e room
   good-full f =
-      same_test (good e room) _ (λ t g. eqb-false _ _ (not-true _ t) (g.one f))
-      (λ t. record { group = group; fits = rw f l; counted = n; one = λ q. eqb-true _ _ (not-false _ t) })
+      same_test (good e room) _ (λ t h. eqb-false _ _ (not-true _ t) (h.one f))
+      (λ t. record { group = g; fits = rw f l; counted = n; one = λ q. eqb-true _ _ (not-false _ t) })
 
   pub good-open : e.full ≡ false → ltb (room - e.state.place) e.state.code ≡ is_bad e room
   good-open f =
       let left = room - e.state.place in
       same_test (good e room) (ltb left e.state.code)
-      (λ t g.
-      let h : e.state.place + e.state.code ≤ room = rw f at g.fits in
+      (λ t h.
+      let h' : e.state.place + e.state.code ≤ room = rw f at h.fits in
       omega (arith, ltb-true left e.state.code t))
       (λ t.
       record {
-        group = group;
+        group = g;
         fits = rw f (omega (arith, ltb-false left e.state.code t));
         counted = n;
         one = λ q. absurd (true≢false (sym q ∙ f));

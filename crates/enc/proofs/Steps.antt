@@ -1,5 +1,5 @@
 -- One byte: the three ways it goes, and what each does to the state and the buffer. Assumes nothing.
-use Rattle.std.specs.Prelude.{if◌then◌else◌}
+use Rattle.std.specs.Prelude.{Ok, if◌then◌else◌}
 use mathlib.Core.Path.{◌≡◌, refl, ◌∙◌}
 use mathlib.Core.Bool.{Bool, true, false, false≢true}
 use mathlib.Core.List.{List}
@@ -12,7 +12,7 @@ use Rattle.enc.specs.State.{opened, asking, step, no_code, state_bad, state_push
 use Rattle.enc.specs.Stream.{obeyed, closes_full, moved, wrote, finished_length}
 use Rattle.enc.specs.declared.state.EncoderState.{EncoderState}
 use Rattle.enc.specs.declared.state.PushResult.TheVariants.{AddSingle, ModifyFromStartAndSkip, ModifyFromStartAndPushAndSkip}
-use Rattle.enc.specs.declared.state.StatePushed.{StatePushed}
+use Rattle.enc.specs.declared.state.PushResult.{PushResult}
 use Rattle.enc.specs.declared.stream.Encoder.{Encoder}
 use Rattle.enc.proofs.Deciding.{by_eq, neither, Refutes}
 
@@ -42,16 +42,16 @@ sound s =
       none = λ g. rw ((in_group s.code).none g.group, le-ltb 0xffff_ffff_ffff_ff00 s.place g.low);
     }
 
-pub sound-push : (s : EncoderState) (b : ℕ) → Sound s → state_push s b ≡ step s b
+pub sound-push : (s : EncoderState) (b : ℕ) → Sound s → state_push s b ≡ asking (Ok (step s b).0) (step s b).1
 unfolding state_push
 sound-push s b g = rw ((sound s).none g)
 
 -- ---- what holds of the three ways holds of a step
 
-pub by-step : (P : StatePushed → Type 0) (s : EncoderState) (b : ℕ)
-    → (b ≡ 0 → P (asking (ModifyFromStartAndSkip s.place s.code) (opened (s.place + s.code) 1)))
-    → ((b ≡ 0 → ⊥) → s.code ≡ 254 → P (asking (ModifyFromStartAndPushAndSkip s.place 255 b) (opened (s.place + 255) 1)))
-    → ((b ≡ 0 → ⊥) → (s.code ≡ 254 → ⊥) → P (asking (AddSingle b) (opened s.place (s.code + 1))))
+pub by-step : (P : PushResult × EncoderState → Type 0) (s : EncoderState) (b : ℕ)
+    → (b ≡ 0 → P (ModifyFromStartAndSkip s.place s.code, opened (s.place + s.code) 1))
+    → ((b ≡ 0 → ⊥) → s.code ≡ 254 → P (ModifyFromStartAndPushAndSkip s.place 255 b, opened (s.place + 255) 1))
+    → ((b ≡ 0 → ⊥) → (s.code ≡ 254 → ⊥) → P (AddSingle b, opened s.place (s.code + 1)))
     → P (step s b)
 unfolding step
 by-step P s b skip full add =
@@ -61,11 +61,11 @@ by-step P s b skip full add =
     (λ nf. rw (ne_eqb b 0 nz, ne_eqb s.code 254 nf) (add nz nf)))
 
 -- what each way asks, told
-pub step-told : (s : EncoderState) (b : ℕ) → state_bad s ≡ false → (r : StatePushed) → r ≡ step s b → told_asked r.result ≡ state_push_told s b
+pub step-told : (s : EncoderState) (b : ℕ) → state_bad s ≡ false → (r : PushResult × EncoderState) → r ≡ step s b → told_asked (Ok r.0) ≡ state_push_told s b
 unfolding state_push_told
 step-told s b g r q =
     rw q
-    (by-step (λ p. told_asked p.result ≡ state_push_told s b) s b (λ z. rw (g, eq-eqb b 0 z))
+    (by-step (λ p. told_asked (Ok p.0) ≡ state_push_told s b) s b (λ z. rw (g, eq-eqb b 0 z))
     (λ nz f. rw (g, ne_eqb b 0 nz, eq-eqb s.code 254 f)) (λ nz nf. rw (g, ne_eqb b 0 nz, ne_eqb s.code 254 nf)))
 
 module _ (e : Encoder) (b : ℕ) where
@@ -89,13 +89,13 @@ module _ (e : Encoder) (b : ℕ) where
   unfolding moved
   finished-moved =
       by-step
-      (λ p. (if closes_full p.result then p.next.place else p.next.place + p.next.code) ≡ e.state.place + e.state.code + 1)
+      (λ p. (if closes_full p.0 then p.1.place else p.1.place + p.1.code) ≡ e.state.place + e.state.code + 1)
       e.state b (λ z. refl) (λ nz f. omega arith) (λ nz nf. omega arith)
 
   pub group-moved : InGroup e.state.code → InGroup (moved e b).state.code
   unfolding moved
   group-moved g =
-      by-step (λ p. InGroup p.next.code) e.state b (λ z. record { some = omega arith; few = omega arith })
+      by-step (λ p. InGroup p.1.code) e.state b (λ z. record { some = omega arith; few = omega arith })
       (λ nz f. record { some = omega arith; few = omega arith })
       (λ nz nf. record { some = omega arith; few = omega (arith, g.few) })
 
@@ -103,14 +103,14 @@ module _ (e : Encoder) (b : ℕ) where
   pub one-moved : (moved e b).full ≡ true → (moved e b).state.code ≡ 1
   unfolding moved
   one-moved =
-      by-step (λ p. closes_full p.result ≡ true → p.next.code ≡ 1) e.state b (λ z q. refl) (λ nz f q. refl)
+      by-step (λ p. closes_full p.0 ≡ true → p.1.code ≡ 1) e.state b (λ z q. refl) (λ nz f q. refl)
       (λ nz nf q. absurd (false≢true q))
 
   -- a full group adds one more
   pub sum_moved : (moved e b).state.place + (moved e b).state.code ≤ e.state.place + e.state.code + 2
   unfolding moved
   sum_moved =
-      by-step (λ p. p.next.place + p.next.code ≤ e.state.place + e.state.code + 2) e.state b (λ z. omega arith)
+      by-step (λ p. p.1.place + p.1.code ≤ e.state.place + e.state.code + 2) e.state b (λ z. omega arith)
       (λ nz f. omega arith) (λ nz nf. omega arith)
 
   -- and no two full groups are less than 254 bytes apart
@@ -119,14 +119,14 @@ module _ (e : Encoder) (b : ℕ) where
   unfolding moved
   most-moved =
       by-step
-      (λ p. 254 * (p.next.place + p.next.code) + p.next.code ≤ 254 * (e.state.place + e.state.code) + e.state.code + 255)
+      (λ p. 254 * (p.1.place + p.1.code) + p.1.code ≤ 254 * (e.state.place + e.state.code) + e.state.code + 255)
       e.state b (λ z. omega arith) (λ nz f. omega arith) (λ nz nf. omega arith)
 
   module _ (d : List ℕ) where
     pub length-wrote : length (wrote e b d) ≡ length d
     unfolding wrote
     length-wrote =
-        by-step (λ p. length (obeyed p.result (e.state.place + e.state.code) d) ≡ length d) e.state b
+        by-step (λ p. length (obeyed p.0 (e.state.place + e.state.code) d) ≡ length d) e.state b
         (λ z. simp length-set) (λ nz f. simp length-set) (λ nz nf. simp length-set)
 
     -- what stands from the finished length on is not written
@@ -134,7 +134,7 @@ module _ (e : Encoder) (b : ℕ) where
     unfolding wrote
     rest-wrote n h k =
         let l : e.state.place + e.state.code < n = omega (arith, finished-moved) in
-        by-step (λ p. drop n (obeyed p.result (e.state.place + e.state.code) d) ≡ drop n d) e.state b
+        by-step (λ p. drop n (obeyed p.0 (e.state.place + e.state.code) d) ≡ drop n d) e.state b
         (λ z. drop-set-lt n d _ _ (omega arith))
         (λ nz f. drop-set-lt n (set d (e.state.place + e.state.code) b) _ _ (omega arith) ∙ drop-set-lt n d _ _ l)
         (λ nz nf. drop-set-lt n d _ _ l)

@@ -12,7 +12,7 @@ use lib.Seq.{paste, length-paste, paste-zero, paste-suc, get_or-drop}
 use borrow.Author.Tests.{eq-eqb, ne_eqb}
 use Rattle.blocks.specs.Blocks.{is_clear, is_all, copied, filled}
 use Rattle.blocks.proofs.Blocks.{clear_says, all-says, copied-fits, filled-fits}
-use Rattle.enc.specs.Fast.{Open, Kept, Ends}
+use Rattle.enc.specs.Fast.{Open, Kept}
 use Rattle.enc.proofs.Deciding.{by_lt, by_eq}
 use Rattle.enc.proofs.Parts.{paste_in, paste-take}
 use Rattle.enc.proofs.Opens.{kept_refl, kept_on, same-open, room, kept-paste, kept-code, changed, ahead, pass, shut, close_zero, close-full, inside}
@@ -36,52 +36,6 @@ module _ (s : List ℕ) (i place out : ℕ) (d : List ℕ) (o : Open s i place o
 
   pub byte-kept : Kept s d (set d out (get_or s i 0))
   byte-kept = rw stored (kept-paste s d out (drop i s) 1 (omega (arith, room s i place out 0 d o)) o.fits (omega (arith, length-drop i s)))
-
--- The loop over single bytes has come to i, with `out` their place, and goes to `stop`.
-pub record Passing (s : List ℕ) (from : ℕ) (d₀ : List ℕ) (at place stop : ℕ) (d : List ℕ) (i out : ℕ) : Type 0 where
-  pub after : from ≤ i
-  pub before : i ≤ stop
-  pub there : out ≡ at + (i - from)
-  pub within : stop ≤ length s
-  pub few : at + (stop - from) ≤ place + 255
-  pub full : stop < length s → at + (stop - from) ≡ place + 255
-  pub opened : Open s i place out 0 d
-  pub kept : Kept s d₀ d
-
-module _ (s : List ℕ) (from : ℕ) (d₀ : List ℕ) (at place stop : ℕ) where
-  pub passing_start : from ≤ stop → stop ≤ length s → at + (stop - from) ≤ place + 255 → (stop < length s → at + (stop - from) ≡ place + 255)
-      → Open s from place at 0 d₀ → Passing s from d₀ at place stop d₀ from at
-  passing_start h within few full o =
-      record { after = omega arith; before = h; there = omega arith; within = within; few = few; full = full; opened = o; kept = kept_refl s d₀ }
-
-  module _ (d : List ℕ) (i out : ℕ) (w : Passing s from d₀ at place stop d i out) where
-    pub passing_on : i < stop → (get_or s i 0 ≡ 0 → ⊥) → Passing s from d₀ at place stop (set d out (get_or s i 0)) (i + 1) (out + 1)
-    passing_on h nz =
-        let l : i < length s = omega (arith, w.within) in
-        record {
-          after = omega (arith, w.after);
-          before = omega arith;
-          there = omega (arith, w.there, w.after);
-          within = w.within;
-          few = w.few;
-          full = w.full;
-          opened = byte-open s i place out d w.opened l nz (omega (arith, w.there, w.few, w.after));
-          kept = kept_on w.kept (byte-kept s i place out d w.opened l);
-        }
-
-    -- it stops at a zero, at the source's end or with a full group
-    pub passing_end : (i < stop → get_or s i 0 ≡ 0)
-        → (Open s i place (at + (i - from)) 0 d × Ends s from i place at) × Kept s d₀ d
-    passing_end z = (
-      (
-        same-open w.opened refl refl w.there refl,
-        record {
-          after = w.after;
-          stops = λ l m. by_lt i stop z (λ k. absurd (omega (arith, w.full (omega (arith, w.before)), w.before)));
-        },
-      ),
-      w.kept,
-    )
 
 -- ---- sixteen zeros
 

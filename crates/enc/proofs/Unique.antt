@@ -1,31 +1,28 @@
 -- Two results that meet a function's promise are equal, for every public function. Assumes nothing.
-use Rattle.std.specs.Prelude.{if◌then◌else◌}
+use Rattle.std.specs.Prelude.{Result, Ok, Err, ⊤, if◌then◌else◌}
 use mathlib.Core.Path.{◌≡◌, refl, sym, ap₂, ◌∙◌}
 use mathlib.Core.List.{List}
 use Prim.Native.Nat.{ℕ}
 use lib.Dec.{eqb}
 use lib.ListN.{length}
 use Rattle.cobs.specs.Answers.{Told, is_done}
+use Rattle.cobs.specs.declared.refusals.BadState.{BadState}
+use Rattle.cobs.specs.declared.refusals.DestBufTooSmall.{DestBufTooSmall}
 use Rattle.cobs.specs.OneShot.{plain, zeros_around, chosen, encode_told, encode_dest}
 use Rattle.cobs.proofs.Told.{one-result}
 use Rattle.enc.specs.State.{fresh_state, state_push, state_finalize}
 use Rattle.enc.specs.Stream.{fresh, started, push_told, push_next, push_dest, finish_told, finish_dest}
 use Rattle.enc.specs.Stream as stream
-use Rattle.enc.specs.OneShot.{told, told_with}
+use Rattle.enc.specs.OneShot.{told}
 use Rattle.enc.specs.declared.state.EncoderState.{EncoderState}
 use Rattle.enc.specs.declared.state.StatePushed.{StatePushed}
-use Rattle.enc.specs.declared.state.StateFinished.{StateFinished}
+use Rattle.enc.specs.declared.state.Modify.{Modify}
 use Rattle.enc.specs.declared.stream.Encoder.{Encoder}
-use Rattle.enc.specs.declared.stream.Started.{Started}
-use Rattle.enc.specs.declared.stream.Accepted.{Accepted}
-use Rattle.enc.specs.declared.stream.Accepted.TheVariants as accept
+use Rattle.enc.specs.declared.stream.PushError.{PushError}
+use Rattle.enc.specs.declared.stream.PushError.TheVariants as error
 use Rattle.enc.specs.declared.stream.Pushed.{Pushed}
-use Rattle.enc.specs.declared.stream.Finished.{Finished}
-use Rattle.enc.specs.declared.stream.Finished.TheVariants as finish
-use Rattle.enc.specs.declared.oneshot.Encoded.{Encoded}
-use Rattle.enc.specs.declared.oneshot.Encoded.TheVariants as encoded
-use Rattle.enc.specs.declared.oneshot.EncodedWith.{EncodedWith}
-use Rattle.enc.specs.declared.oneshot.EncodedWith.TheVariants as encoded_with
+use Rattle.enc.specs.declared.oneshot.EncodeError.{EncodeError}
+use Rattle.enc.specs.declared.oneshot.EncodeError.TheVariants as refusal
 
 -- ---- the state alone
 
@@ -35,7 +32,7 @@ unique-EncoderState-new r s p q = p ∙ sym q
 pub unique-EncoderState-push : (e : EncoderState) (byte : ℕ) (r s : StatePushed) → r ≡ state_push e byte → s ≡ state_push e byte → r ≡ s
 unique-EncoderState-push e byte r s p q = p ∙ sym q
 
-pub unique-EncoderState-finalize : (e : EncoderState) (r s : StateFinished) → r ≡ state_finalize e → s ≡ state_finalize e → r ≡ s
+pub unique-EncoderState-finalize : (e : EncoderState) (r s : Result Modify BadState) → r ≡ state_finalize e → s ≡ state_finalize e → r ≡ s
 unique-EncoderState-finalize e r s p q = p ∙ sym q
 
 -- ---- streaming
@@ -43,22 +40,22 @@ unique-EncoderState-finalize e r s p q = p ∙ sym q
 pub unique-Encoder-new : (r s : Encoder) → r ≡ fresh → s ≡ fresh → r ≡ s
 unique-Encoder-new r s p q = p ∙ sym q
 
-pub unique-Encoder-start : (dest : List ℕ) (r s : Started) → r ≡ started (length dest) → s ≡ started (length dest) → r ≡ s
+pub unique-Encoder-start : (dest : List ℕ) (r s : Result Encoder DestBufTooSmall) → r ≡ started (length dest) → s ≡ started (length dest) → r ≡ s
 unique-Encoder-start dest r s p q = p ∙ sym q
 
-accepted-back : Told → Accepted
-accepted-back t =
-    if is_done t then accept.Accepted
-    else if eqb t.number 6 then accept.BadState
-    else if eqb t.number 5 then accept.TooLong
-    else accept.DestBufTooSmall
+pushed-back : Told → Result ⊤ PushError
+pushed-back t =
+    if is_done t then Ok tt
+    else if eqb t.number 6 then Err error.BadState
+    else if eqb t.number 5 then Err error.TooLong
+    else Err error.DestBufTooSmall
 
-accepted-told : (r : Accepted) → accepted-back (stream.told r) ≡ r
-unfolding accepted-back
-accepted-told accept.Accepted = refl
-accepted-told accept.BadState = refl
-accepted-told accept.TooLong = refl
-accepted-told accept.DestBufTooSmall = refl
+pushed-told : (r : Result ⊤ PushError) → pushed-back (stream.told r) ≡ r
+unfolding pushed-back
+pushed-told (Ok u) = refl
+pushed-told (Err error.BadState) = refl
+pushed-told (Err error.TooLong) = refl
+pushed-told (Err error.DestBufTooSmall) = refl
 
 -- What `Encoder::push` promises of its result r and of the buffer d' that it leaves.
 pub record Push (e : Encoder) (piece d : List ℕ) (r : Pushed) (d' : List ℕ) : Type 0 where
@@ -69,39 +66,39 @@ pub record Push (e : Encoder) (piece d : List ℕ) (r : Pushed) (d' : List ℕ) 
 pub unique-Encoder-push : (e : Encoder) (piece d : List ℕ) (r s : Pushed) (d' d'' : List ℕ)
     → Push e piece d r d' → Push e piece d s d'' → (r ≡ s) × (d' ≡ d'')
 unique-Encoder-push e piece d r s d' d'' p q = (
-  ap₂ (λ (a : Accepted) (n : Encoder). record { answer = a; next = n })
-      (one-result stream.told accepted-back accepted-told p.answer q.answer) (p.next ∙ sym q.next),
+  ap₂ (λ (a : Result ⊤ PushError) (n : Encoder). record { answer = a; next = n })
+      (one-result stream.told pushed-back pushed-told p.answer q.answer) (p.next ∙ sym q.next),
   p.memory ∙ sym q.memory,
 )
 
-finished-back : Told → Finished
-finished-back t = if is_done t then finish.Length t.first else finish.BadState
+finished-back : Told → Result ℕ BadState
+finished-back t = if is_done t then Ok t.first else Err record {}
 
-finished-told : (r : Finished) → finished-back (stream.told_finished r) ≡ r
+finished-told : (r : Result ℕ BadState) → finished-back (stream.told_finished r) ≡ r
 unfolding finished-back
-finished-told (finish.Length n) = refl
-finished-told finish.BadState = refl
+finished-told (Ok n) = refl
+finished-told (Err e) = refl
 
-pub unique-Encoder-finalize : (e : Encoder) (d : List ℕ) (r s : Finished) (d' d'' : List ℕ)
+pub unique-Encoder-finalize : (e : Encoder) (d : List ℕ) (r s : Result ℕ BadState) (d' d'' : List ℕ)
     → stream.told_finished r ≡ finish_told e (length d) → stream.told_finished s ≡ finish_told e (length d)
     → d' ≡ finish_dest e d → d'' ≡ finish_dest e d → (r ≡ s) × (d' ≡ d'')
 unique-Encoder-finalize e d r s d' d'' p q a b = (one-result stream.told_finished finished-back finished-told p q, a ∙ sym b)
 
 -- ---- the one-shot calls, whatever the form
 
-back : Told → Encoded
-back t = if is_done t then encoded.Length t.first else if eqb t.number 5 then encoded.TooLong else encoded.DestBufTooSmall
+back : Told → Result ℕ EncodeError
+back t = if is_done t then Ok t.first else if eqb t.number 5 then Err refusal.TooLong else Err refusal.DestBufTooSmall
 
-back-told : (r : Encoded) → back (told r) ≡ r
+back-told : (r : Result ℕ EncodeError) → back (told r) ≡ r
 unfolding back
-back-told (encoded.Length n) = refl
-back-told encoded.TooLong = refl
-back-told encoded.DestBufTooSmall = refl
+back-told (Ok n) = refl
+back-told (Err refusal.TooLong) = refl
+back-told (Err refusal.DestBufTooSmall) = refl
 
-unique-form : {t : Told} {m : List ℕ} (r s : Encoded) (d' d'' : List ℕ) → told r ≡ t → told s ≡ t → d' ≡ m → d'' ≡ m → (r ≡ s) × (d' ≡ d'')
+unique-form : {t : Told} {m : List ℕ} (r s : Result ℕ EncodeError) (d' d'' : List ℕ) → told r ≡ t → told s ≡ t → d' ≡ m → d'' ≡ m → (r ≡ s) × (d' ≡ d'')
 unique-form r s d' d'' p q a b = (one-result told back back-told p q, a ∙ sym b)
 
-module _ (src d : List ℕ) (r s : Encoded) (d' d'' : List ℕ) where
+module _ (src d : List ℕ) (r s : Result ℕ EncodeError) (d' d'' : List ℕ) where
   pub unique-encode : told r ≡ encode_told plain src (length d) → told s ≡ encode_told plain src (length d)
       → d' ≡ encode_dest plain src d → d'' ≡ encode_dest plain src d → (r ≡ s) × (d' ≡ d'')
   unique-encode = unique-form r s d' d''
@@ -118,16 +115,7 @@ module _ (src d : List ℕ) (r s : Encoded) (d' d'' : List ℕ) where
       → d' ≡ encode_dest zeros_around src d → d'' ≡ encode_dest zeros_around src d → (r ≡ s) × (d' ≡ d'')
   unique-try_encode_including_sentinels = unique-form r s d' d''
 
-with-back : Told → EncodedWith
-with-back t = if is_done t then encoded_with.Length t.first else if eqb t.number 5 then encoded_with.TooLong else encoded_with.DestBufTooSmall
-
-with-told : (r : EncodedWith) → with-back (told_with r) ≡ r
-unfolding with-back
-with-told (encoded_with.Length n) = refl
-with-told encoded_with.TooLong = refl
-with-told encoded_with.DestBufTooSmall = refl
-
-pub unique-encode_with_sentinel : (src d : List ℕ) (sentinel : ℕ) (r s : EncodedWith) (d' d'' : List ℕ)
-    → told_with r ≡ encode_told (chosen sentinel) src (length d) → told_with s ≡ encode_told (chosen sentinel) src (length d)
+pub unique-encode_with_sentinel : (src d : List ℕ) (sentinel : ℕ) (r s : Result ℕ EncodeError) (d' d'' : List ℕ)
+    → told r ≡ encode_told (chosen sentinel) src (length d) → told s ≡ encode_told (chosen sentinel) src (length d)
     → d' ≡ encode_dest (chosen sentinel) src d → d'' ≡ encode_dest (chosen sentinel) src d → (r ≡ s) × (d' ≡ d'')
-unique-encode_with_sentinel src d sentinel r s d' d'' p q a b = (one-result told_with with-back with-told p q, a ∙ sym b)
+unique-encode_with_sentinel src d sentinel = unique-form

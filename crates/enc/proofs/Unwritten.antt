@@ -27,7 +27,7 @@ module _ (at : ℕ) (e : Encoder) (b : ℕ) where
   free_before : Free at (moved e b).state → Free at e.state
   unfolding moved
   free_before =
-      by-step (λ t. Free at t.next → Free at e.state) e.state b
+      by-step (λ t. Free at t.1 → Free at e.state) e.state b
       (λ z k n. by_eq at (end e) (λ w. omega (arith, w)) (λ w. omega (arith, k w)))
       (λ nz f k n. by_eq at (e.state.place + 255) (λ w. omega (arith, w, f)) (λ w. omega (arith, k w, f)))
       (λ nz nf k n. omega (arith, k n))
@@ -36,7 +36,7 @@ module _ (at : ℕ) (e : Encoder) (b : ℕ) where
   free_kept : InGroup e.state.code → (d : List ℕ) → Free at (moved e b).state → get_or (wrote e b d) at 0 ≡ get_or d at 0
   unfolding moved wrote
   free_kept g d =
-      by-step (λ t. Free at t.next → get_or (obeyed t.result (end e) d) at 0 ≡ get_or d at 0) e.state b
+      by-step (λ t. Free at t.1 → get_or (obeyed t.0 (end e) d) at 0 ≡ get_or d at 0) e.state b
       (λ z k. get_or-set_other d e.state.place at _ 0 (λ w. omega (arith, w, g.some, k (λ v. omega (arith, v, w, g.some)))))
       (λ nz f k. get_or-set_other (set d (end e) b) e.state.place at _ 0 (λ w. omega (arith, w, k (λ v. omega (arith, v, w))))
       ∙ get_or-set_other d (end e) at b 0 (λ w. omega (arith, w, f, k (λ v. omega (arith, v, w, f)))))

@@ -1,18 +1,17 @@
 -- What the private functions behind the one-shot calls tell each other; no promise of a public function cites it.
 -- Assumes nothing.
-use Rattle.std.specs.Prelude.{◌≡◌, List, ◌++◌, ℕ, ◌+◌, ◌-◌, ◌≤◌, ◌<◌, length, get_or, take, drop, if◌then◌else◌}
+use Rattle.std.specs.Prelude.{◌≡◌, List, ◌++◌, ℕ, ◌+◌, ◌-◌, ◌≤◌, ◌<◌, length, get_or, take, drop, Result, Ok, Err, if◌then◌else◌}
 use Rattle.cobs.specs.Words.{◌exceeds◌}
 use Rattle.cobs.specs.Code.{encode}
-use Rattle.enc.specs.declared.oneshot.Room.{Room}
-use Rattle.enc.specs.declared.oneshot.Room.TheVariants.{Fits, DestBufTooSmall}
+use Rattle.cobs.specs.declared.refusals.DestBufTooSmall.{DestBufTooSmall}
 
 -- The encoding, under a name that no function has.
 abbrev pub encoding : List ℕ → List ℕ
 encoding m = encode m
 
 -- Whether the encoding fits.
-abbrev pub room_for : (src : List ℕ) (room : ℕ) → Room
-room_for src room = if length (encode src) exceeds room then DestBufTooSmall else Fits
+abbrev pub room_for : (src : List ℕ) (room : ℕ) → Result Unit DestBufTooSmall
+room_for src room = if length (encode src) exceeds room then Err (record {}) else Ok tt
 
 -- A group whose code is at `place` can end before `at`: its code is 1 to 255.
 abbrev pub Closes : (place at : ℕ) → Type 0

@@ -1,5 +1,5 @@
 -- 01's sentences about the encoder's calls, to be ticked off. `proofs/Sentences.antt` proves them together. Assumes nothing.
-use Rattle.std.specs.Prelude.{◌≡◌, true, false, List, [], ◌∷◌, ◌++◌, ℕ, ◌≤◌, ◌<◌, length, get_or, drop, if◌then◌else◌}
+use Rattle.std.specs.Prelude.{◌≡◌, true, false, List, [], ◌∷◌, ◌++◌, ℕ, ◌≤◌, ◌<◌, Ok, length, get_or, drop, if◌then◌else◌}
 use Rattle.cobs.specs.Words.{◌exceeds◌}
 use Rattle.cobs.specs.Code.{encode, over}
 use Rattle.cobs.specs.Answers.{Told, done, dest_buf_too_small, too_long, longest, is_done}
@@ -7,7 +7,6 @@ use Rattle.enc.specs.State.{last_place, state_bad, state_push}
 use Rattle.enc.specs.Stream.{finished_length, is_bad, started, start_told, push_told, push_next, push_dest, finish_told, finish_dest}
 use Rattle.enc.specs.declared.state.EncoderState.{EncoderState}
 use Rattle.enc.specs.declared.stream.Encoder.{Encoder}
-use Rattle.enc.specs.declared.stream.Started.TheVariants as start
 
 -- ---- Calls on one encoder and one buffer that nobody else writes
 
@@ -78,7 +77,7 @@ pub record Alone (s : EncoderState) (byte : ℕ) : Type 0 where
 -- All of them.
 pub record Sentences : Type 0 where
   -- from what `start` gives, whatever the calls: a piece after a finalize is among them
-  pub streaming : (d : List ℕ) (e : Encoder) → started (length d) ≡ start.Ready e → (cs : List Call) → Streaming d (calls (begun e d) cs)
+  pub streaming : (d : List ℕ) (e : Encoder) → started (length d) ≡ Ok e → (cs : List Call) → Streaming d (calls (begun e d) cs)
   -- "so an encoder cannot start on a buffer of length 0 (refusal 4)": nothing at all, finished now, does not fit
   pub starts : (room : ℕ) → start_told room ≡ fit_told [] room
   pub refuses : start_told 0 ≡ dest_buf_too_small

@@ -1,17 +1,15 @@
 -- 01 "Encoding calls", streaming: the encoder and its buffer after each byte, and what each call answers. Assumes nothing.
-use Rattle.std.specs.Prelude.{Bool, true, false, not, ◌||◌, ◌&&◌, List, [], ◌∷◌, ℕ, ◌+◌, length, set, eqb, if◌then◌else◌}
+use Rattle.std.specs.Prelude.{Bool, true, false, not, ◌||◌, ◌&&◌, List, [], ◌∷◌, ℕ, ◌+◌, ⊤, Result, Ok, Err, length, set, eqb, if◌then◌else◌}
 use Rattle.cobs.specs.Words.{◌exceeds◌}
 use Rattle.cobs.specs.Answers.{Told, done, dest_buf_too_small, too_long, bad_state, longest, is_done, if_done}
 use Rattle.enc.specs.State.{fresh_state, step, no_code}
+use Rattle.cobs.specs.declared.refusals.BadState.{BadState}
+use Rattle.cobs.specs.declared.refusals.DestBufTooSmall.{DestBufTooSmall}
 use Rattle.enc.specs.declared.state.PushResult.{PushResult}
-use Rattle.enc.specs.declared.state.PushResult.TheVariants.{AddSingle, ModifyFromStartAndSkip, ModifyFromStartAndPushAndSkip, BadState}
+use Rattle.enc.specs.declared.state.PushResult.TheVariants.{AddSingle, ModifyFromStartAndSkip, ModifyFromStartAndPushAndSkip}
 use Rattle.enc.specs.declared.stream.Encoder.{Encoder}
-use Rattle.enc.specs.declared.stream.Started.{Started}
-use Rattle.enc.specs.declared.stream.Started.TheVariants as start
-use Rattle.enc.specs.declared.stream.Accepted.{Accepted}
-use Rattle.enc.specs.declared.stream.Accepted.TheVariants as accept
-use Rattle.enc.specs.declared.stream.Finished.{Finished}
-use Rattle.enc.specs.declared.stream.Finished.TheVariants as finish
+use Rattle.enc.specs.declared.stream.PushError.{PushError}
+use Rattle.enc.specs.declared.stream.PushError.TheVariants as error
 
 -- ---- One byte: what EncoderState asks for is done to the buffer
 
@@ -20,23 +18,21 @@ abbrev pub obeyed : PushResult → (end : ℕ) (d : List ℕ) → List ℕ
 obeyed (AddSingle b) end d = set d end b
 obeyed (ModifyFromStartAndSkip place code) end d = set d place code
 obeyed (ModifyFromStartAndPushAndSkip place code b) end d = set (set d end b) place code
-obeyed BadState end d = d
 
 -- A full group has just closed.
 abbrev pub closes_full : PushResult → Bool
 closes_full (AddSingle b) = false
 closes_full (ModifyFromStartAndSkip place code) = false
 closes_full (ModifyFromStartAndPushAndSkip place code b) = true
-closes_full BadState = false
 
 -- The encoder after the byte.
 unfoldable pub moved : Encoder → (byte : ℕ) → Encoder
 moved e byte =
-    record { state = (step e.state byte).next; full = closes_full (step e.state byte).result; count = e.count + 1 }
+    record { state = (step e.state byte).1; full = closes_full (step e.state byte).0; count = e.count + 1 }
 
 -- The buffer after it. An open code byte is not written until its group closes.
 unfoldable pub wrote : Encoder → (byte : ℕ) (d : List ℕ) → List ℕ
-wrote e byte d = obeyed (step e.state byte).result (e.state.place + e.state.code) d
+wrote e byte d = obeyed (step e.state byte).0 (e.state.place + e.state.code) d
 
 -- ---- A piece, byte by byte
 
@@ -68,24 +64,24 @@ abbrev pub fresh : Encoder
 fresh = record { state = fresh_state; full = false; count = 0 }
 
 -- An encoder cannot start on a buffer of length 0.
-unfoldable pub started : (room : ℕ) → Started
-started room = if eqb room 0 then start.DestBufTooSmall else start.Ready fresh
+unfoldable pub started : (room : ℕ) → Result Encoder DestBufTooSmall
+started room = if eqb room 0 then Err record {} else Ok fresh
 
 -- What `start` answers, told.
-abbrev pub told_started : Started → Told
-told_started (start.Ready e) = done 0 0
-told_started start.DestBufTooSmall = dest_buf_too_small
+abbrev pub told_started : Result Encoder DestBufTooSmall → Told
+told_started (Ok e) = done 0 0
+told_started (Err r) = dest_buf_too_small
 
 -- DestBufTooSmall on a buffer of length 0, else done.
 unfoldable pub start_told : (room : ℕ) → Told
 start_told room = if eqb room 0 then dest_buf_too_small else done 0 0
 
 -- What `push` answers, told.
-abbrev pub told : Accepted → Told
-told accept.Accepted = done 0 0
-told accept.BadState = bad_state
-told accept.TooLong = too_long
-told accept.DestBufTooSmall = dest_buf_too_small
+abbrev pub told : Result ⊤ PushError → Told
+told (Ok u) = done 0 0
+told (Err error.BadState) = bad_state
+told (Err error.TooLong) = too_long
+told (Err error.DestBufTooSmall) = dest_buf_too_small
 
 -- A piece is accepted exactly if all accepted before and it, finished now, fit.
 unfoldable pub push_told : Encoder → (piece : List ℕ) (room : ℕ) → Told
@@ -104,9 +100,9 @@ unfoldable pub push_dest : Encoder → (piece d : List ℕ) → List ℕ
 push_dest e piece d = if_done (push_told e piece (length d)) (write_all e piece d) d
 
 -- What `finalize` answers, told.
-abbrev pub told_finished : Finished → Told
-told_finished (finish.Length n) = done n 0
-told_finished finish.BadState = bad_state
+abbrev pub told_finished : Result ℕ BadState → Told
+told_finished (Ok n) = done n 0
+told_finished (Err e) = bad_state
 
 -- BadState, or the finished length.
 unfoldable pub finish_told : Encoder → (room : ℕ) → Told

@@ -11,6 +11,14 @@ use blocks::{Taken, fill16, take16};
 // How far the next byte may stand from the open group's code for sixteen more to leave the group short of full.
 const BLOCK_ROOM: usize = EncoderState::RUN - 16;
 
+// Where the encoder stands: the byte of src it comes to, where that byte goes, and the place of the open group's code.
+#[derive(Clone, Copy)]
+struct Stand {
+    from: usize,
+    at: usize,
+    place: usize,
+}
+
 // A zero closes the group that is open, and the next opens at `at`. Answers the open group's place.
 fn mark(dest: &mut [u8], place: usize, at: usize, byte: u8) -> usize
     requires { Closes place at × (place < length dest.old) }
@@ -25,95 +33,105 @@ fn mark(dest: &mut [u8], place: usize, at: usize, byte: u8) -> usize
 }
 
 // The codes of the groups that close among sixteen bytes that are copied already.
-fn marks(src: &[u8], i: usize, dest: &mut [u8], out: usize, first: usize) -> usize
-    requires { Open src.now i first out 16 dest.old × Short first (out + 16) }
-    ensures next { Open src.now (i + 16) result (out + 16) 0 dest.new × Short result (out + 16) }
+fn marks(src: &[u8], dest: &mut [u8], s: Stand) -> Stand
+    requires { Open src.now s.from s.place s.at 16 dest.old × Short s.place (s.at + 16) }
+    ensures next { Open src.now result.from result.place result.at 0 dest.new × Short result.place result.at }
+    ensures sixteen { result.from ≡ s.from + 16 }
     ensures kept { Kept src.now dest.old dest.new }
 {
-    let mut place = first;
-    let mut k = 0;
-    while k < 16 {
-        place = mark(dest, place, out + k, src[i + k]);
-        k += 1;
+    let mut place = s.place;
+    for k in 0..16 {
+        place = mark(dest, place, s.at + k, src[s.from + k]);
     }
-    place
+    Stand {
+        from: s.from + 16,
+        at: s.at + 16,
+        place,
+    }
 }
 
-// The next sixteen bytes, where the open group has room for them. Answers the open group's place.
-fn block(src: &[u8], i: usize, dest: &mut [u8], out: usize, place: usize) -> usize
-    requires { Open src.now i place out 0 dest.old × (i + 16 ≤ length src.now) × Short place (out + 16) }
-    ensures next { Open src.now (i + 16) result (out + 16) 0 dest.new × Short result (out + 16) }
+// The next sixteen bytes, where the open group has room for them.
+fn block(src: &[u8], dest: &mut [u8], s: Stand) -> Stand
+    requires { Open src.now s.from s.place s.at 0 dest.old × (s.from + 16 ≤ length src.now) × Short s.place (s.at + 16) }
+    ensures next { Open src.now result.from result.place result.at 0 dest.new × Short result.place result.at }
+    ensures sixteen { result.from ≡ s.from + 16 }
     ensures kept { Kept src.now dest.old dest.new }
 {
-    let taken = take16(dest, out, src, i);
+    let taken = take16(dest, s.at, src, s.from);
     if let Taken::Clear = taken {
-        return place;
+        return Stand {
+            from: s.from + 16,
+            at: s.at + 16,
+            place: s.place,
+        };
     }
     if let Taken::Zeros = taken {
-        dest[place] = (out - place) as u8;
-        fill16(dest, out, 1);
-        return out + 15;
+        dest[s.place] = (s.at - s.place) as u8;
+        fill16(dest, s.at, 1);
+        return Stand {
+            from: s.from + 16,
+            at: s.at + 16,
+            place: s.at + 15,
+        };
     }
-    marks(src, i, dest, out, place)
+    marks(src, dest, s)
 }
 
-// The bytes up to a zero, the source's end or a full group, one by one. Answers where they end.
-fn bytes(src: &[u8], from: usize, dest: &mut [u8], at: usize, place: usize) -> usize
-    requires { Open src.now from place at 0 dest.old }
-    ensures next { Open src.now result place (at + (result - from)) 0 dest.new × Ends src.now from result place at }
+// The bytes up to a zero, the source's end or a full group, one by one. Answers how many.
+// `position` and `copy_from_slice` are proved too, but cost 5.56 instructions a byte for 5.43 of particle records, 2.17 for 2.07 of random bytes.
+fn bytes(src: &[u8], dest: &mut [u8], s: Stand) -> usize
+    requires { Open src.now s.from s.place s.at 0 dest.old }
+    ensures next { Open src.now (s.from + result) s.place (s.at + result) 0 dest.new × Ends src.now s.from (s.from + result) s.place s.at }
     ensures kept { Kept src.now dest.old dest.new }
 {
-    let room = EncoderState::FULL_LENGTH - (at - place);
-    let left = src.len() - from;
-    let stop = if left < room {
-        from + left
-    } else {
-        from + room
-    };
-    let mut i = from;
-    let mut out = at;
-    while i < stop {
-        let b = src[i];
+    let room = EncoderState::FULL_LENGTH - (s.at - s.place);
+    let most = room.min(src.len() - s.from);
+    for k in 0..most {
+        let b = src[s.from + k];
         if b == 0 {
-            return i;
+            return k;
         }
-        dest[out] = b;
-        i += 1;
-        out += 1;
+        dest[s.at + k] = b;
     }
-    i
+    most
 }
 
 // The encoding of src, whole; answers its length.
+// A loop with counters: a step is sixteen bytes, or what `bytes` finds, with or without a zero behind it, and no range has such steps.
 pub(crate) fn put(src: &[u8], dest: &mut [u8]) -> usize
     requires { length (encode src.now) ≤ length dest.old }
     ensures length { result ≡ length (encode src.now) }
     ensures memory { dest.new ≡ over (encode src.now) dest.old }
 {
-    let n = src.len();
-    let mut place = 0;
-    let mut out = 1;
-    let mut i = 0;
+    let mut s = Stand {
+        from: 0,
+        at: 1,
+        place: 0,
+    };
     loop {
-        if 16 <= n - i {
-            if out - place <= BLOCK_ROOM {
-                place = block(src, i, dest, out, place);
-                i += 16;
-                out += 16;
+        if 16 <= src.len() - s.from {
+            if s.at - s.place <= BLOCK_ROOM {
+                s = block(src, dest, s);
                 continue;
             }
         }
-        let to = bytes(src, i, dest, out, place);
-        out = out + (to - i);
-        i = to;
-        dest[place] = (out - place) as u8;
-        if i == n {
-            return out;
+        let n = bytes(src, dest, s);
+        let from = s.from + n;
+        let at = s.at + n;
+        dest[s.place] = (at - s.place) as u8;
+        if from == src.len() {
+            return at;
         }
-        if out - place < EncoderState::FULL_LENGTH {
-            i += 1;
-        }
-        place = out;
-        out += 1;
+        // A zero is behind the group, unless it is full.
+        let zero = if at - s.place < EncoderState::FULL_LENGTH {
+            1
+        } else {
+            0
+        };
+        s = Stand {
+            from: from + zero,
+            at: at + 1,
+            place: at,
+        };
     }
 }

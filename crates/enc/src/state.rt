@@ -1,17 +1,19 @@
 //! The encoder's state alone: what each byte asks of the output, for a caller who keeps the output.
 ghost use Rattle.std.specs.Prelude.{◌≡◌, false};
-ghost use Rattle.enc.specs.State.{fresh_state, step, state_bad, state_push, told_asked, state_push_told, state_finalize, told_state_finished, state_finalize_told};
+ghost use Rattle.enc.specs.State.{fresh_state, no_code, step, state_bad, state_push, told_asked, state_push_told, state_finalize, told_state_finished, state_finalize_told};
+
+use cobs::refusals::BadState;
 
 /// The output starts with one byte held open for a code. `place` is where the open group's code is to stand, `code` what
 /// it is if the group closes now.
-#[derive(Clone, Copy)]
+#[derive(Clone, Copy, Debug, PartialEq, Eq)]
 pub struct EncoderState {
     pub place: usize,
     pub code: u8,
 }
 
 /// What a byte asks of the output.
-#[derive(Clone, Copy)]
+#[derive(Clone, Copy, Debug, PartialEq, Eq)]
 pub enum PushResult {
     /// Put this byte at the end.
     AddSingle(u8),
@@ -19,21 +21,20 @@ pub enum PushResult {
     ModifyFromStartAndSkip { place: usize, code: u8 },
     /// Write the code at its place, put the byte at the end, and hold one byte open after it if more comes.
     ModifyFromStartAndPushAndSkip { place: usize, code: u8, byte: u8 },
-    BadState,
 }
 
 /// What a byte asks, and the state after it.
-#[derive(Clone, Copy)]
+#[derive(Clone, Copy, Debug, PartialEq, Eq)]
 pub struct StatePushed {
-    pub result: PushResult,
+    pub result: Result<PushResult, BadState>,
     pub next: EncoderState,
 }
 
 /// What the end of the message asks: write the code at its place.
-#[derive(Clone, Copy)]
-pub enum StateFinished {
-    Modify { place: usize, code: u8 },
-    BadState,
+#[derive(Clone, Copy, Debug, PartialEq, Eq)]
+pub struct Modify {
+    pub place: usize,
+    pub code: u8,
 }
 
 impl EncoderState {
@@ -64,77 +65,81 @@ impl EncoderState {
         ensures state { result ≡ state_push self byte }
         ensures answer { told_asked result.result ≡ state_push_told self byte }
     {
-        if is_bad(self) {
+        if self.is_bad() {
             return StatePushed {
-                result: PushResult::BadState,
+                result: Err(BadState),
                 next: self,
             };
         }
-        stepped(self, byte)
+        let (asked, next) = self.step(byte);
+        StatePushed {
+            result: Ok(asked),
+            next,
+        }
     }
 
     /// The end of the message.
-    pub fn finalize(self) -> StateFinished
+    pub fn finalize(self) -> Result<Modify, BadState>
         ensures state { result ≡ state_finalize self }
         ensures answer { told_state_finished result ≡ state_finalize_told self }
     {
-        if is_bad(self) {
-            return StateFinished::BadState;
+        if self.is_bad() {
+            return Err(BadState);
         }
-        StateFinished::Modify {
+        Ok(Modify {
             place: self.place,
             code: self.code,
+        })
+    }
+
+    // Whether the code is none.
+    pub(crate) fn has_no_code(self) -> bool
+        ensures { result ≡ no_code self.code }
+    {
+        !(1..=EncoderState::RUN_LIMIT).contains(&self.code)
+    }
+
+    // Whether the code is none, or the place too far for a group to close.
+    fn is_bad(self) -> bool
+        ensures { result ≡ state_bad self }
+    {
+        self.has_no_code() || EncoderState::PLACE_LIMIT < self.place
+    }
+
+    // One byte: a zero closes the group, the nonzero byte that reaches the run limit closes it full, and any other is added.
+    pub(crate) fn step(self, byte: u8) -> (PushResult, EncoderState)
+        requires { state_bad self ≡ false }
+        ensures { result ≡ step self byte }
+    {
+        let EncoderState { place, code } = self;
+        if byte == 0 {
+            return (
+                PushResult::ModifyFromStartAndSkip { place, code },
+                EncoderState {
+                    place: place + code as usize,
+                    code: 1,
+                },
+            );
         }
-    }
-}
-
-// Whether the code is none, or the place too far for a group to close.
-fn is_bad(s: EncoderState) -> bool
-    ensures { result ≡ state_bad s }
-{
-    if s.code == 0 {
-        return true;
-    }
-    if EncoderState::RUN_LIMIT < s.code {
-        return true;
-    }
-    EncoderState::PLACE_LIMIT < s.place
-}
-
-// One byte: a zero closes the group, the nonzero byte that reaches the run limit closes it full, and any other is added.
-fn stepped(s: EncoderState, byte: u8) -> StatePushed
-    requires { state_bad s ≡ false }
-    ensures { result ≡ step s byte }
-{
-    let place = s.place;
-    let code = s.code;
-    if byte == 0 {
-        return StatePushed {
-            result: PushResult::ModifyFromStartAndSkip { place, code },
-            next: EncoderState {
-                place: place + code as usize,
-                code: 1,
-            },
-        };
-    }
-    if code == EncoderState::RUN_LIMIT {
-        return StatePushed {
-            result: PushResult::ModifyFromStartAndPushAndSkip {
+        if code == EncoderState::RUN_LIMIT {
+            return (
+                PushResult::ModifyFromStartAndPushAndSkip {
+                    place,
+                    code: EncoderState::FULL_CODE,
+                    byte,
+                },
+                EncoderState {
+                    place: place + EncoderState::FULL_LENGTH,
+                    code: 1,
+                },
+            );
+        }
+        (
+            PushResult::AddSingle(byte),
+            EncoderState {
                 place,
-                code: EncoderState::FULL_CODE,
-                byte,
+                code: code + 1,
             },
-            next: EncoderState {
-                place: place + EncoderState::FULL_LENGTH,
-                code: 1,
-            },
-        };
-    }
-    StatePushed {
-        result: PushResult::AddSingle(byte),
-        next: EncoderState {
-            place,
-            code: code + 1,
-        },
+        )
     }
 }

@@ -1,37 +1,36 @@
 -- Two results that meet a function's promise are equal, the encoder and the slice behind its reference with them, for every public
 -- function. Assumes nothing.
-use Rattle.std.specs.Prelude.{if◌then◌else◌}
+use Rattle.std.specs.Prelude.{Result, Ok, Err, ⊤, if◌then◌else◌}
 use mathlib.Core.Path.{◌≡◌, refl, sym, ap, ◌∙◌}
 use mathlib.Core.List.{List}
 use Prim.Native.Nat.{ℕ}
 use lib.ListN.{length, get_or}
 use denote.Ref.{MutBor}
 use Rattle.cobs.specs.Answers.{Told, done, is_done}
+use Rattle.cobs.specs.declared.refusals.BadState.{BadState}
+use Rattle.cobs.specs.declared.refusals.DestBufTooSmall.{DestBufTooSmall}
 use Rattle.cobs.proofs.Told.{one-result}
 use Rattle.enc.specs.Stream.{fresh, start_told, told, push_told, push_next, told_finished, finish_told, finish_dest}
 use Rattle.enc.specs.declared.stream.Encoder.{Encoder}
-use Rattle.enc.specs.declared.stream.Accepted.{Accepted}
+use Rattle.enc.specs.declared.stream.PushError.{PushError}
 use Rattle.enc.specs.declared.stream.Pushed.{Pushed}
-use Rattle.enc.specs.declared.stream.Finished.{Finished}
 use Rattle.enc.proofs.Unique.{unique-Encoder-push, unique-Encoder-finalize}
 use Rattle.held.specs.Held.{told_opened, over, pushed, next₁, dest₁, next₂, dest₂, told_two, two_told, two_dest}
-use Rattle.held.specs.declared.Opened.{Opened}
-use Rattle.held.specs.declared.Opened.TheVariants.{Ready, DestBufTooSmall}
 use Rattle.held.specs.declared.CobsEncoder.{CobsEncoder}
 use Rattle.held.specs.declared.NewEncoder.{NewEncoder}
 use Rattle.held.specs.declared.TwoPieces.{TwoPieces}
 
 -- ---- new
 
-opened-back : Told → Opened
-opened-back t = if is_done t then Ready else DestBufTooSmall
+opened-back : Told → Result ⊤ DestBufTooSmall
+opened-back t = if is_done t then Ok tt else Err record {}
 
-opened-undone : (a : Opened) → opened-back (told_opened a) ≡ a
+opened-undone : (a : Result ⊤ DestBufTooSmall) → opened-back (told_opened a) ≡ a
 unfolding opened-back
-opened-undone Ready = refl
-opened-undone DestBufTooSmall = refl
+opened-undone (Ok u) = refl
+opened-undone (Err e) = refl
 
-one-opened : {t : Told} (a b : Opened) → told_opened a ≡ t → told_opened b ≡ t → a ≡ b
+one-opened : {t : Told} (a b : Result ⊤ DestBufTooSmall) → told_opened a ≡ t → told_opened b ≡ t → a ≡ b
 one-opened a b p q = one-result told_opened opened-back opened-undone p q
 
 -- What `new` promises of its result r, on the slice x.
@@ -44,28 +43,28 @@ unique-new x r s p q i = record { encoder = (p.1 ∙ sym q.1) i; answer = one-op
 -- ---- push and finalize
 
 -- an answer to a piece is the only one, as `Encoder::push` has it
-one_answer : (e : Encoder) (piece d : List ℕ) (r s : Accepted) → told r ≡ push_told e piece (length d) → told s ≡ push_told e piece (length d) → r ≡ s
+one_answer : (e : Encoder) (piece d : List ℕ) (r s : Result ⊤ PushError) → told r ≡ push_told e piece (length d) → told s ≡ push_told e piece (length d) → r ≡ s
 one_answer e piece d r s p q =
     ap (λ (z : Pushed). z.answer)
     (unique-Encoder-push e piece d (with-next r) (with-next s) _ _ (record { answer = p; next = refl; memory = refl })
     (record { answer = q; next = refl; memory = refl })).0
   where
-    with-next : Accepted → Pushed
+    with-next : Result ⊤ PushError → Pushed
     with-next a = record { answer = a; next = push_next e piece (length d) }
 
 -- What `push` promises of its answer r and of the encoder after it.
-abbrev Pushes : (e : CobsEncoder) (piece : List ℕ) → Accepted → CobsEncoder → Type 0
+abbrev Pushes : (e : CobsEncoder) (piece : List ℕ) → Result ⊤ PushError → CobsEncoder → Type 0
 Pushes e piece r after = (told r ≡ push_told e.encoder piece (length e.dest.now)) × (after ≡ pushed e piece)
 
-pub unique-push : (e : CobsEncoder) (piece : List ℕ) (r s : Accepted) (k l : CobsEncoder) → Pushes e piece r k → Pushes e piece s l
+pub unique-push : (e : CobsEncoder) (piece : List ℕ) (r s : Result ⊤ PushError) (k l : CobsEncoder) → Pushes e piece r k → Pushes e piece s l
     → (r ≡ s) × (k ≡ l)
 unique-push e piece r s k l p q = (one_answer e.encoder piece e.dest.now r s p.0 q.0, p.1 ∙ sym q.1)
 
 -- What `finalize` promises of its answer r and of the slice after it.
-abbrev Finishes : (e : CobsEncoder) → Finished → List ℕ → Type 0
+abbrev Finishes : (e : CobsEncoder) → Result ℕ BadState → List ℕ → Type 0
 Finishes e r after = (told_finished r ≡ finish_told e.encoder (length e.dest.now)) × (after ≡ finish_dest e.encoder e.dest.now)
 
-pub unique-finalize : (e : CobsEncoder) (r s : Finished) (k l : List ℕ) → Finishes e r k → Finishes e s l → (r ≡ s) × (k ≡ l)
+pub unique-finalize : (e : CobsEncoder) (r s : Result ℕ BadState) (k l : List ℕ) → Finishes e r k → Finishes e s l → (r ≡ s) × (k ≡ l)
 unique-finalize e r s k l p q = unique-Encoder-finalize e.encoder e.dest.now r s k l p.0 q.0 p.1 q.1
 
 -- ---- two pieces

@@ -1,18 +1,17 @@
 -- 01 "one CobsEncoder that holds its output slice": each definition puts together those of `enc`. Assumes nothing.
-use Rattle.std.specs.Prelude.{List, [], ◌∷◌, ℕ, length}
+use Rattle.std.specs.Prelude.{List, [], ◌∷◌, ℕ, ⊤, Result, Ok, Err, length}
 use denote.Ref.{MutBor, at_last}
 use Rattle.cobs.specs.Answers.{Told, done, dest_buf_too_small}
+use Rattle.cobs.specs.declared.refusals.DestBufTooSmall.{DestBufTooSmall}
 use Rattle.enc.specs.Stream.{fresh, start_told, told, push_told, push_next, push_dest, told_finished, finish_told, finish_dest}
 use Rattle.enc.specs.declared.stream.Encoder.{Encoder}
-use Rattle.held.specs.declared.Opened.{Opened}
-use Rattle.held.specs.declared.Opened.TheVariants.{Ready, DestBufTooSmall}
 use Rattle.held.specs.declared.CobsEncoder.{CobsEncoder}
 use Rattle.held.specs.declared.TwoPieces.{TwoPieces}
 
 -- What `new` answers, told.
-abbrev pub told_opened : Opened → Told
-told_opened Ready = done 0 0
-told_opened DestBufTooSmall = dest_buf_too_small
+abbrev pub told_opened : Result ⊤ DestBufTooSmall → Told
+told_opened (Ok u) = done 0 0
+told_opened (Err e) = dest_buf_too_small
 
 -- The encoder that starts over a lent slice.
 abbrev pub over : MutBor (List ℕ) → CobsEncoder

@@ -1,6 +1,8 @@
 //! EncoderState alone: what a byte asks of the output, and the state after it.
+use crate::read::{Parts, Words};
 use crate::{say, words};
-use enc::state::{EncoderState, PushResult, StateFinished};
+use cobs::refusals::BadState;
+use enc::state::{EncoderState, Modify, PushResult, StatePushed};
 use std::io;
 
 pub(crate) fn shown(rt: &impl Print, s: EncoderState) -> io::Result<()> {
@@ -15,48 +17,75 @@ fn modify(rt: &impl Print, place: usize, code: u8) -> io::Result<()> {
     say::byte(rt, code)
 }
 
-fn asked(rt: &impl Print, res: PushResult) -> io::Result<()> {
-    match res {
-        PushResult::AddSingle(b) => {
+fn asked(rt: &impl Print, found: Result<PushResult, BadState>) -> io::Result<()> {
+    match found {
+        Ok(PushResult::AddSingle(b)) => {
             say::word(rt, words::ADD_SINGLE)?;
             say::byte(rt, b)
         }
-        PushResult::ModifyFromStartAndSkip { place, code } => {
+        Ok(PushResult::ModifyFromStartAndSkip { place, code }) => {
             say::word(rt, words::MODIFY_AND_SKIP)?;
             modify(rt, place, code)
         }
-        PushResult::ModifyFromStartAndPushAndSkip { place, code, byte } => {
+        Ok(PushResult::ModifyFromStartAndPushAndSkip { place, code, byte }) => {
             say::word(rt, words::MODIFY_PUSH_AND_SKIP)?;
             modify(rt, place, code)?;
             say::word(rt, words::SPACE)?;
             say::byte(rt, byte)
         }
-        PushResult::BadState => say::word(rt, words::BAD_STATE),
+        Err(refusal) => print!(rt; "{refusal}"),
     }
 }
 
 fn push(rt: &impl Print, s: EncoderState, b: u8) -> io::Result<()> {
-    let pushed = s.push(b);
-    let result = pushed.result;
-    let next = pushed.next;
+    let StatePushed { result, next } = s.push(b);
     asked(rt, result)?;
     say::word(rt, words::COMMA)?;
     shown(rt, next)
 }
 
 fn finish(rt: &impl Print, s: EncoderState) -> io::Result<()> {
-    let found = s.finalize();
-    match found {
-        StateFinished::Modify { place, code } => modify(rt, place, code),
-        StateFinished::BadState => say::word(rt, words::BAD_STATE),
+    match s.finalize() {
+        Ok(Modify { place, code }) => modify(rt, place, code),
+        Err(refusal) => print!(rt; "{refusal}"),
     }
 }
 
 /// `EncoderState::new`, `EncoderState::push PLACE CODE of BYTE`, `EncoderState::finalize PLACE CODE`.
-pub(crate) fn run(rt: &impl Print, k: usize, place: usize, code: u8, byte: u8) -> io::Result<()> {
-    match k {
-        0 => shown(rt, EncoderState::new()),
-        1 => push(rt, EncoderState { place, code }, byte),
-        _ => finish(rt, EncoderState { place, code }),
+#[derive(Clone, Copy)]
+pub(crate) enum Call {
+    New,
+    Push(EncoderState),
+    Finalize(EncoderState),
+}
+
+impl Call {
+    pub(crate) fn named(words: Words) -> Option<Call> {
+        match words {
+            ("EncoderState::new", [], Parts::Neither) => Some(Call::New),
+            ("EncoderState::push", [place, code], Parts::Of) => Some(Call::Push(given(
+                *place, *code,
+            ))),
+            ("EncoderState::finalize", [place, code], Parts::Neither) => Some(Call::Finalize(given(
+                *place, *code,
+            ))),
+            _ => None,
+        }
+    }
+}
+
+/// A state of these numbers.
+pub(crate) fn given(place: usize, code: usize) -> EncoderState {
+    EncoderState {
+        place,
+        code: (code % 256) as u8,
+    }
+}
+
+pub(crate) fn run(rt: &impl Print, call: Call, byte: u8) -> io::Result<()> {
+    match call {
+        Call::New => shown(rt, EncoderState::new()),
+        Call::Push(s) => push(rt, s, byte),
+        Call::Finalize(s) => finish(rt, s),
     }
 }

@@ -1,54 +1,26 @@
 //! The batch receiver: it and its table stay from line to line.
+use crate::read::{Parts, Words};
 use crate::{say, words};
-use batch::{Answer, Close, Receiver, Standing};
+use batch::{Close, Receiver};
 use std::io;
-
-fn answer(rt: &impl Print, found: Answer) -> io::Result<()> {
-    match found {
-        Answer::BadState => say::word(rt, words::BAD_STATE),
-        Answer::BadLength => say::word(rt, words::BAD_LENGTH),
-        Answer::BadRecord(k) => say::numbered(rt, words::BAD_RECORD, k),
-        Answer::Stale(k) => say::numbered(rt, words::STALE, k),
-        Answer::Ahead(k) => say::numbered(rt, words::AHEAD, k),
-        Answer::NoRoom(k) => say::numbered(rt, words::NO_ROOM, k),
-        Answer::BeyondClose(k) => say::numbered(rt, words::BEYOND_CLOSE, k),
-        Answer::Conflict(k) => say::numbered(rt, words::CONFLICT, k),
-        Answer::Open => say::word(rt, words::OPEN),
-        Answer::Missing(k) => say::numbered(rt, words::MISSING, k),
-        Answer::Complete => say::word(rt, words::COMPLETE),
-        Answer::Differs => say::word(rt, words::DIFFERS),
-    }
-}
-
-fn standing(rt: &impl Print, found: Standing) -> io::Result<()> {
-    match found {
-        Standing::BadState => say::word(rt, words::BAD_STATE),
-        Standing::Open => say::word(rt, words::OPEN),
-        Standing::Missing(k) => say::numbered(rt, words::MISSING, k),
-        Standing::Complete => say::word(rt, words::COMPLETE),
-        Standing::Differs => say::word(rt, words::DIFFERS),
-    }
-}
 
 fn shown(rt: &impl Print, r: Receiver, table: &[u8]) -> io::Result<()> {
     say::named(rt, words::BATCH, r.batch as usize)?;
     say::named(rt, words::SLOTS, r.slots)?;
     say::named(rt, words::ITS_TOTAL, r.total as usize)?;
     say::word(rt, words::STANDS)?;
-    standing(rt, batch::stands(r, table))
+    say::answer(rt, batch::stands(r, table))
 }
 
-fn open(rt: &impl Print, number: usize, table: &[u8]) -> io::Result<Receiver> {
-    let r = batch::open((number % 65_536) as u16, table);
+fn made(rt: &impl Print, r: Receiver, table: &[u8]) -> io::Result<Receiver> {
     shown(rt, r, table)?;
     Ok(r)
 }
 
 fn accept(rt: &impl Print, r: Receiver, frame: &[u8], table: &mut [u8]) -> io::Result<Receiver> {
     let accepted = batch::accept(r, table, frame);
-    let found = accepted.answer;
     let next = accepted.next;
-    answer(rt, found)?;
+    say::answer(rt, accepted.answer)?;
     say::word(rt, words::THEN)?;
     shown(rt, next, table)?;
     say::holds(rt, table)?;
@@ -56,47 +28,68 @@ fn accept(rt: &impl Print, r: Receiver, frame: &[u8], table: &mut [u8]) -> io::R
 }
 
 fn stands(rt: &impl Print, r: Receiver, table: &[u8]) -> io::Result<Receiver> {
-    standing(rt, batch::stands(r, table))?;
+    say::answer(rt, batch::stands(r, table))?;
     Ok(r)
 }
 
 fn taken(count: usize, total: usize) -> Close {
-    Close::Taken {
+    Close {
         count,
         total: (total % 4_294_967_296) as u32,
     }
 }
 
-fn set(rt: &impl Print, n: &[usize; 6], close: Close, table: &[u8]) -> io::Result<Receiver> {
+// A receiver of these numbers; the marks are those of the first 64 indices.
+fn given(batch: usize, slots: usize, total: usize, first: usize, close: Option<Close>) -> Receiver {
     let mut marks = [0u64; 64];
-    marks[0] = n[3] as u64;
-    let r = Receiver {
+    marks[0] = first as u64;
+    Receiver {
         marks,
-        total: (n[2] % 4_294_967_296) as u32,
+        total: (total % 4_294_967_296) as u32,
         close,
-        slots: n[1],
-        batch: (n[0] % 65_536) as u16,
-    };
-    shown(rt, r, table)?;
-    Ok(r)
+        slots,
+        batch: (batch % 65_536) as u16,
+    }
 }
 
 /// `batch::open BATCH on TABLE`, `batch::accept of FRAME`, `batch::stands on TABLE`; and a receiver of given numbers,
 /// `Receiver BATCH SLOTS TOTAL MARKS`, with the marks of the first 64 indices as a number, or with COUNT TOTAL of a close
 /// after them, also with `on TABLE`.
+#[derive(Clone, Copy)]
+pub(crate) enum Call {
+    Open(u16),
+    Accept,
+    Stands,
+    Given(Receiver),
+}
+
+impl Call {
+    pub(crate) fn named(words: Words) -> Option<Call> {
+        match words {
+            ("batch::open", [batch], Parts::On) => Some(Call::Open((*batch % 65_536) as u16)),
+            ("batch::accept", [], Parts::Of) => Some(Call::Accept),
+            ("batch::stands", [], Parts::On) => Some(Call::Stands),
+            ("Receiver", [batch, slots, total, marks], Parts::Neither | Parts::On) => Some(
+                Call::Given(given(*batch, *slots, *total, *marks, None)),
+            ),
+            ("Receiver", [batch, slots, total, marks, count, of], Parts::Neither | Parts::On) =>
+                Some(Call::Given(given(*batch, *slots, *total, *marks, Some(taken(*count, *of))))),
+            _ => None,
+        }
+    }
+}
+
 pub(crate) fn run(
     rt: &impl Print,
-    k: usize,
-    n: &[usize; 6],
+    call: Call,
     r: Receiver,
     m: &[u8],
     table: &mut [u8],
 ) -> io::Result<Receiver> {
-    match k {
-        0 => open(rt, n[0], table),
-        1 => accept(rt, r, m, table),
-        2 => stands(rt, r, table),
-        3 | 4 => set(rt, n, Close::Not, table),
-        _ => set(rt, n, taken(n[4], n[5]), table),
+    match call {
+        Call::Open(number) => made(rt, batch::open(number, table), table),
+        Call::Accept => accept(rt, r, m, table),
+        Call::Stands => stands(rt, r, table),
+        Call::Given(receiver) => made(rt, receiver, table),
     }
 }

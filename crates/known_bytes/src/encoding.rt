@@ -1,48 +1,52 @@
 //! One-shot encoding: the length or a refusal, and what the buffer then holds.
-use crate::{holding, say, words};
-use enc::oneshot::{Encoded, EncodedWith};
+use crate::read::{Parts, Words};
+use crate::{holding, say};
 use std::io;
-
-fn answer(rt: &impl Print, found: Encoded) -> io::Result<()> {
-    match found {
-        Encoded::Length(n) => say::number(rt, n),
-        Encoded::TooLong => say::word(rt, words::TOO_LONG),
-        Encoded::DestBufTooSmall => say::word(rt, words::DEST_BUF_TOO_SMALL),
-    }
-}
-
-fn answer_with(rt: &impl Print, found: EncodedWith) -> io::Result<()> {
-    match found {
-        EncodedWith::Length(n) => say::number(rt, n),
-        EncodedWith::TooLong => say::word(rt, words::TOO_LONG),
-        EncodedWith::DestBufTooSmall => say::word(rt, words::DEST_BUF_TOO_SMALL),
-    }
-}
-
-fn plain(k: usize, m: &[u8], dest: &mut [u8]) -> Encoded {
-    match k {
-        0 => enc::oneshot::encode(m, dest),
-        1 => enc::oneshot::try_encode(m, dest),
-        2 => enc::oneshot::encode_including_sentinels(m, dest),
-        _ => enc::oneshot::try_encode_including_sentinels(m, dest),
-    }
-}
 
 /// `encode of MESSAGE on BUFFER` and its like, `encode_with_sentinel SENTINEL of MESSAGE on BUFFER`,
 /// `encode_two CUT of MESSAGE on BUFFER`.
-pub(crate) fn run(
-    rt: &impl Print,
-    k: usize,
-    n: usize,
-    m: &[u8],
-    dest: &mut [u8],
-) -> io::Result<()> {
-    if k == 5 {
-        return holding::run(rt, n, m, dest);
+#[derive(Clone, Copy)]
+pub(crate) enum Call {
+    Encode,
+    TryEncode,
+    EncodeIncludingSentinels,
+    TryEncodeIncludingSentinels,
+    EncodeWithSentinel(u8),
+    EncodeTwo(usize),
+}
+
+impl Call {
+    pub(crate) fn named(words: Words) -> Option<Call> {
+        match words {
+            ("encode", [], Parts::Both) => Some(Call::Encode),
+            ("try_encode", [], Parts::Both) => Some(Call::TryEncode),
+            ("encode_including_sentinels", [], Parts::Both) => Some(Call::EncodeIncludingSentinels),
+            ("try_encode_including_sentinels", [], Parts::Both) => Some(
+                Call::TryEncodeIncludingSentinels,
+            ),
+            ("encode_with_sentinel", [n], Parts::Both) => Some(Call::EncodeWithSentinel(
+                (*n % 256) as u8,
+            )),
+            ("encode_two", [cut], Parts::Both) => Some(Call::EncodeTwo(*cut)),
+            _ => None,
+        }
     }
-    if k == 4 {
-        let sentinel = (n % 256) as u8;
-        return answer_with(rt, enc::oneshot::encode_with_sentinel(m, dest, sentinel));
+}
+
+pub(crate) fn run(rt: &impl Print, call: Call, m: &[u8], dest: &mut [u8]) -> io::Result<()> {
+    match call {
+        Call::Encode => say::answer(rt, enc::oneshot::encode(m, dest))?,
+        Call::TryEncode => say::answer(rt, enc::oneshot::try_encode(m, dest))?,
+        Call::EncodeIncludingSentinels => {
+            say::answer(rt, enc::oneshot::encode_including_sentinels(m, dest))?
+        }
+        Call::TryEncodeIncludingSentinels => {
+            say::answer(rt, enc::oneshot::try_encode_including_sentinels(m, dest))?
+        }
+        Call::EncodeWithSentinel(sentinel) => {
+            say::answer(rt, enc::oneshot::encode_with_sentinel(m, dest, sentinel))?
+        }
+        Call::EncodeTwo(cut) => holding::run(rt, cut, m, dest)?,
     }
-    answer(rt, plain(k, m, dest))
+    say::holds(rt, dest)
 }

@@ -1,7 +1,8 @@
 //! The decoder in pieces: it and its buffer stay from line to line.
+use crate::read::{Parts, Words};
 use crate::{decoding, read, say, words};
-use dec::state::{DecodeResult, DecoderState, Stepped};
-use dec::stream::{CobsDecoder, PushAnswer, Pushed};
+use dec::state::{DecodeResult, DecoderState, EarlyZero, Stepped};
+use dec::stream::{CobsDecoder, Frame, PushError, Pushed};
 use std::io;
 
 fn state(rt: &impl Print, s: DecoderState) -> io::Result<()> {
@@ -31,16 +32,16 @@ fn at_start(state: DecoderState) -> CobsDecoder {
     }
 }
 
-fn result(rt: &impl Print, found: DecodeResult) -> io::Result<()> {
+fn result(rt: &impl Print, found: Result<DecodeResult, EarlyZero>) -> io::Result<()> {
     match found {
-        DecodeResult::NoData => say::word(rt, words::NO_DATA),
-        DecodeResult::DataStart => say::word(rt, words::DATA_START),
-        DecodeResult::DataComplete => say::word(rt, words::DATA_COMPLETE),
-        DecodeResult::DataContinue(b) => {
+        Ok(DecodeResult::NoData) => say::word(rt, words::NO_DATA),
+        Ok(DecodeResult::DataStart) => say::word(rt, words::DATA_START),
+        Ok(DecodeResult::DataComplete) => say::word(rt, words::DATA_COMPLETE),
+        Ok(DecodeResult::DataContinue(b)) => {
             say::word(rt, words::DATA_CONTINUE)?;
             say::byte(rt, b)
         }
-        DecodeResult::InvalidFrame => say::named(rt, words::INVALID_FRAME, 0),
+        Err(e) => print!(rt; "{e}"),
     }
 }
 
@@ -53,19 +54,11 @@ fn given(rt: &impl Print, stepped: Stepped) -> io::Result<DecoderState> {
     Ok(after)
 }
 
-fn answer(rt: &impl Print, found: PushAnswer) -> io::Result<()> {
+fn answer(rt: &impl Print, found: Result<Option<Frame>, PushError>) -> io::Result<()> {
     match found {
-        PushAnswer::More => say::word(rt, words::MORE),
-        PushAnswer::Frame { size, parsed } => decoding::frame(rt, size, parsed),
-        PushAnswer::InvalidFrame { decoded, consumed } => {
-            say::named(rt, words::INVALID_FRAME, decoded)?;
-            say::named(rt, words::CONSUMED, consumed)
-        }
-        PushAnswer::TargetBufTooSmall { consumed } => {
-            say::word(rt, words::TARGET_BUF_TOO_SMALL)?;
-            say::named(rt, words::CONSUMED, consumed)
-        }
-        PushAnswer::BadState => say::word(rt, words::BAD_STATE),
+        Ok(None) => say::word(rt, words::MORE),
+        Ok(Some(Frame { size, parsed })) => decoding::frame(rt, size, parsed),
+        Err(e) => print!(rt; "{e}"),
     }
 }
 
@@ -89,19 +82,7 @@ fn feed(rt: &impl Print, d: CobsDecoder, byte: u8, dest: &mut [u8]) -> io::Resul
     answered(rt, pushed, dest)
 }
 
-fn decoder(
-    rt: &impl Print,
-    place: usize,
-    skip: bool,
-    state: DecoderState,
-) -> io::Result<CobsDecoder> {
-    let d = CobsDecoder { place, skip, state };
-    shown(rt, d)?;
-    Ok(d)
-}
-
-fn new(rt: &impl Print) -> io::Result<CobsDecoder> {
-    let d = CobsDecoder::new();
+fn made(rt: &impl Print, d: CobsDecoder) -> io::Result<CobsDecoder> {
     shown(rt, d)?;
     Ok(d)
 }
@@ -111,41 +92,60 @@ fn named(rt: &impl Print, s: DecoderState) -> io::Result<CobsDecoder> {
     Ok(at_start(s))
 }
 
-// A fresh one; one at its start in the state that the line names; or one of given numbers in the state that stands.
-fn make(
-    rt: &impl Print,
-    k: usize,
-    n: &[usize; 6],
-    stands: DecoderState,
-) -> io::Result<CobsDecoder> {
-    let first = n[0];
-    match k {
-        0 => new(rt),
-        1 => named(rt, DecoderState::new()),
-        2 => named(rt, DecoderState::Grab((first % 256) as u8)),
-        3 => named(rt, DecoderState::GrabChain((first % 256) as u8)),
-        _ => decoder(rt, first, n[1] != 0, stands),
-    }
-}
-
 /// `CobsDecoder::push of PIECE`, `CobsDecoder::feed of BYTE`, `DecoderState::feed of BYTE` (through `fed`, which has the reference
 /// that `feed` takes), `DecoderState::step of BYTE`; `CobsDecoder::new on BUFFER`, `DecoderState::new`, `DecoderState::Grab LEFT`,
 /// `DecoderState::GrabChain LEFT`; and a decoder of given numbers in the state that stands, `CobsDecoder PLACE SKIP`, also with
 /// `on BUFFER`.
+#[derive(Clone, Copy)]
+pub(crate) enum Call {
+    Push,
+    Feed,
+    StateFeed,
+    StateStep,
+    New,
+    State(DecoderState),
+    Given { place: usize, skip: bool },
+}
+
+impl Call {
+    pub(crate) fn named(words: Words) -> Option<Call> {
+        match words {
+            ("CobsDecoder::push", [], Parts::Of) => Some(Call::Push),
+            ("CobsDecoder::feed", [], Parts::Of) => Some(Call::Feed),
+            ("DecoderState::feed", [], Parts::Of) => Some(Call::StateFeed),
+            ("DecoderState::step", [], Parts::Of) => Some(Call::StateStep),
+            ("CobsDecoder::new", [], Parts::On) => Some(Call::New),
+            ("DecoderState::new", [], Parts::Neither) => Some(Call::State(DecoderState::new())),
+            ("DecoderState::Grab", [n], Parts::Neither) => Some(Call::State(DecoderState::Grab(
+                (*n % 256) as u8,
+            ))),
+            ("DecoderState::GrabChain", [n], Parts::Neither) => Some(Call::State(
+                DecoderState::GrabChain((*n % 256) as u8),
+            )),
+            ("CobsDecoder", [place, skip], Parts::Neither | Parts::On) => Some(Call::Given {
+                place: *place,
+                skip: *skip != 0,
+            }),
+            _ => None,
+        }
+    }
+}
+
 pub(crate) fn run(
     rt: &impl Print,
-    k: usize,
-    n: &[usize; 6],
+    call: Call,
     d: CobsDecoder,
     m: &[u8],
     dest: &mut [u8],
 ) -> io::Result<CobsDecoder> {
-    let s = d.state;
-    match k {
-        0 => push(rt, d, m, dest),
-        1 => feed(rt, d, read::first(m), dest),
-        2 => Ok(at_start(given(rt, dec::state::fed(s, read::first(m)))?)),
-        3 => Ok(at_start(given(rt, s.step(read::first(m)))?)),
-        _ => make(rt, k - 4, n, s),
+    let state = d.state;
+    match call {
+        Call::Push => push(rt, d, m, dest),
+        Call::Feed => feed(rt, d, read::first(m), dest),
+        Call::StateFeed => Ok(at_start(given(rt, dec::state::fed(state, read::first(m)))?)),
+        Call::StateStep => Ok(at_start(given(rt, state.step(read::first(m)))?)),
+        Call::New => made(rt, CobsDecoder::new()),
+        Call::State(s) => named(rt, s),
+        Call::Given { place, skip } => made(rt, CobsDecoder { place, skip, state }),
     }
 }

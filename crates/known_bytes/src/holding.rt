@@ -1,49 +1,37 @@
 //! Two pieces through the encoder that holds its buffer: what new, push, push and finalize answer.
 use crate::{say, streaming, words};
-use held::{CobsEncoder, Opened, TwoPieces};
+use cobs::refusals::DestBufTooSmall;
+use held::{CobsEncoder, TwoPieces};
 use std::io;
 
-fn opened(rt: &impl Print, found: Opened) -> io::Result<()> {
+fn opened(rt: &impl Print, found: Result<(), DestBufTooSmall>) -> io::Result<()> {
     match found {
-        Opened::Ready => say::word(rt, words::READY),
-        Opened::DestBufTooSmall => say::word(rt, words::DEST_BUF_TOO_SMALL),
+        Ok(()) => say::word(rt, words::READY),
+        Err(refusal) => print!(rt; "{refusal}"),
     }
 }
 
 fn answers(rt: &impl Print, found: TwoPieces) -> io::Result<()> {
-    let new = found.opened;
-    let first = found.first;
-    let second = found.second;
-    let last = found.finished;
-    opened(rt, new)?;
+    opened(rt, found.opened)?;
     say::word(rt, words::COMMA)?;
-    streaming::answer(rt, first)?;
+    streaming::answer(rt, found.first)?;
     say::word(rt, words::COMMA)?;
-    streaming::answer(rt, second)?;
+    streaming::answer(rt, found.second)?;
     say::word(rt, words::COMMA)?;
-    streaming::finished(rt, last)
+    say::answer(rt, found.finished)
 }
 
 // What `new` answers on this buffer, which it leaves as it is.
-fn opened_on(dest: &mut [u8]) -> Opened {
-    let made = CobsEncoder::new(dest);
-    made.answer
+fn opened_on(dest: &mut [u8]) -> Result<(), DestBufTooSmall> {
+    CobsEncoder::new(dest).answer
 }
 
 /// The message's first `cut` bytes, then the others. The first answer is that of `new` itself, since `encode_two` begins with its steps.
 pub(crate) fn run(rt: &impl Print, cut: usize, m: &[u8], dest: &mut [u8]) -> io::Result<()> {
-    if m.len() < cut {
+    let Some((first, second)) = m.split_at_checked(cut) else {
         return Ok(());
-    }
+    };
     let opened = opened_on(dest);
-    let found = held::encode_two(dest, &m[0..cut], &m[cut..]);
-    answers(
-        rt,
-        TwoPieces {
-            opened,
-            first: found.first,
-            second: found.second,
-            finished: found.finished,
-        },
-    )
+    let found = held::encode_two(dest, first, second);
+    answers(rt, TwoPieces { opened, ..found })
 }

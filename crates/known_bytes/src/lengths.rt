@@ -1,20 +1,28 @@
 //! The two length functions.
-use crate::{say, words};
-use cobs::Length;
+use crate::read::{Parts, Words};
+use crate::say;
 use std::io;
 
-fn answer(rt: &impl Print, found: Length) -> io::Result<()> {
-    match found {
-        Length::Bytes(n) => say::number(rt, n),
-        Length::TooLong => say::word(rt, words::TOO_LONG),
+/// `max_encoding_overhead LENGTH`, `max_encoding_length LENGTH`.
+#[derive(Clone, Copy)]
+pub(crate) enum Call {
+    MaxEncodingOverhead(usize),
+    MaxEncodingLength(usize),
+}
+
+impl Call {
+    pub(crate) fn named(words: Words) -> Option<Call> {
+        match words {
+            ("max_encoding_overhead", [n], Parts::Neither) => Some(Call::MaxEncodingOverhead(*n)),
+            ("max_encoding_length", [n], Parts::Neither) => Some(Call::MaxEncodingLength(*n)),
+            _ => None,
+        }
     }
 }
 
-/// `max_encoding_overhead LENGTH`, `max_encoding_length LENGTH`.
-pub(crate) fn run(rt: &impl Print, k: usize, n: usize) -> io::Result<()> {
-    if k == 0 {
-        answer(rt, cobs::max_encoding_overhead(n))
-    } else {
-        answer(rt, cobs::max_encoding_length(n))
+pub(crate) fn run(rt: &impl Print, call: Call) -> io::Result<()> {
+    match call {
+        Call::MaxEncodingOverhead(n) => say::answer(rt, cobs::max_encoding_overhead(n)),
+        Call::MaxEncodingLength(n) => say::answer(rt, cobs::max_encoding_length(n)),
     }
 }

@@ -5,6 +5,7 @@
 
 mod alone;
 mod batches;
+mod calls;
 mod cases;
 mod decoding;
 mod encoding;
@@ -55,18 +56,10 @@ fn start() -> Held {
 
 fn lines(rt: &impl Print, text: &[u8]) -> io::Result<()> {
     let mut held = start();
-    let mut buffer = Bytes {
-        all: [0; 65_552],
-        len: 0,
-    };
-    let mut number = 0;
-    let mut at = 0;
-    while at < text.len() {
-        let from = at;
-        let end = words::find(text, from, b'\n');
-        at = end + 1;
-        number += 1;
-        let after = cases::run(rt, &text[from..end], number, held, buffer)?;
+    let mut buffer = Bytes::new();
+    for (number, line) in (1..).zip(text.split_inclusive(|b| *b == b'\n')) {
+        let line = line.strip_suffix(b"\n").unwrap_or(line);
+        let after = cases::run(rt, line, number, held, buffer)?;
         say::end(rt)?;
         held = after.held;
         buffer = after.buffer;
@@ -74,7 +67,7 @@ fn lines(rt: &impl Print, text: &[u8]) -> io::Result<()> {
     Ok(())
 }
 
-// Reads until `out` is full or the input ends; how many bytes now stand at its front.
+// Reads until `out` is full or the input ends; how many bytes now stand at its front. Stays a loop: `read_to_end` needs the heap.
 fn read_full(input: &mut impl Read, out: &mut [u8]) -> io::Result<usize>
     ensures { IfOk result (λ n. n ≤ length out.new) }
 {

@@ -1,4 +1,5 @@
 //! Marks: they stay from line to line.
+use crate::read::{Parts, Words};
 use crate::{say, words};
 use marks::Marks;
 use std::io;
@@ -15,23 +16,36 @@ fn marked(rt: &impl Print, marks: Marks, i: usize) -> io::Result<Marks> {
     shown(rt, m)
 }
 
-// The calls that change nothing.
-fn ask(rt: &impl Print, k: usize, i: usize, marks: &Marks) -> io::Result<()> {
-    match k {
-        2 => say::flag(rt, marks::is_marked(marks, i)),
-        3 => say::number(rt, marks::count(marks)),
-        _ => say::number(rt, marks::count_below(marks, i)),
+/// `marks::none`, `marks::mark INDEX`, `marks::is_marked INDEX`, `marks::count`, `marks::count_below INDEX`.
+#[derive(Clone, Copy)]
+pub(crate) enum Call {
+    None,
+    Mark(usize),
+    IsMarked(usize),
+    Count,
+    CountBelow(usize),
+}
+
+impl Call {
+    pub(crate) fn named(words: Words) -> Option<Call> {
+        match words {
+            ("marks::none", [], Parts::Neither) => Some(Call::None),
+            ("marks::mark", [i], Parts::Neither) => Some(Call::Mark(*i)),
+            ("marks::is_marked", [i], Parts::Neither) => Some(Call::IsMarked(*i)),
+            ("marks::count", [], Parts::Neither) => Some(Call::Count),
+            ("marks::count_below", [i], Parts::Neither) => Some(Call::CountBelow(*i)),
+            _ => None,
+        }
     }
 }
 
-/// `marks::none`, `marks::mark INDEX`, `marks::is_marked INDEX`, `marks::count`, `marks::count_below INDEX`.
-pub(crate) fn run(rt: &impl Print, k: usize, i: usize, marks: Marks) -> io::Result<Marks> {
-    match k {
-        0 => shown(rt, marks::none()),
-        1 => marked(rt, marks, i),
-        _ => {
-            ask(rt, k, i, &marks)?;
-            Ok(marks)
-        }
+pub(crate) fn run(rt: &impl Print, call: Call, marks: Marks) -> io::Result<Marks> {
+    match call {
+        Call::None => return shown(rt, marks::none()),
+        Call::Mark(i) => return marked(rt, marks, i),
+        Call::IsMarked(i) => say::flag(rt, marks::is_marked(&marks, i))?,
+        Call::Count => say::number(rt, marks::count(&marks))?,
+        Call::CountBelow(i) => say::number(rt, marks::count_below(&marks, i))?,
     }
+    Ok(marks)
 }

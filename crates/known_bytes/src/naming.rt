@@ -1,4 +1,5 @@
 //! Both states of the wire as numbers, and back.
+use crate::read::{Parts, Words};
 use crate::{say, words};
 use numbers::COUNT;
 use std::io;
@@ -6,54 +7,83 @@ use wire::Wire;
 
 // To the list's first n.
 fn write(rt: &impl Print, w: Wire, n: usize, list: &mut [u64]) -> io::Result<()> {
-    if list.len() < n {
+    let Some(list) = list.get_mut(..n) else {
         return Ok(());
-    }
-    numbers::write(w, &mut list[0..n]);
+    };
+    numbers::write(w, list);
     say::word(rt, words::UNIT)?;
     say::word(rt, words::HOLDS)?;
-    say::numbers(rt, &list[0..n])
+    say::numbers(rt, list)
 }
 
-// From the list's first n. What is read is written again, so that every field shows.
+// From the list's first n. What is read is written again, so that every field shows; where none is named, a fresh pair.
 fn read(rt: &impl Print, n: usize, list: &[u64]) -> io::Result<()> {
     if list.len() < n {
         return Ok(());
     }
-    let found = numbers::read(&list[0..n]);
-    let w = found.wire;
     let mut again = [9u64; 74];
-    if found.named {
-        say::word(rt, words::NAMED)?;
-    } else {
-        say::word(rt, words::NOT_NAMED)?;
-    }
+    let w = match numbers::read(&list[0..n]) {
+        Some(w) => {
+            say::word(rt, words::NAMED)?;
+            w
+        }
+        None => {
+            say::word(rt, words::NOT_NAMED)?;
+            Wire::open(0, &[])
+        }
+    };
     numbers::write(w, &mut again);
     say::numbers(rt, &again)
 }
 
-fn put(list: &mut [u64], at: usize, value: u64) {
-    if at < list.len() {
-        list[at] = value;
-    }
-}
-
 // From the states' numbers, but for the one at that place.
-fn read_with(rt: &impl Print, w: Wire, n: &[usize; 6], list: &mut [u64]) -> io::Result<()> {
+fn read_with(
+    rt: &impl Print,
+    w: Wire,
+    length: usize,
+    at: usize,
+    value: u64,
+    list: &mut [u64],
+) -> io::Result<()> {
     if list.len() < COUNT {
         return Ok(());
     }
     numbers::write(w, &mut list[0..COUNT]);
-    put(list, n[1], n[2] as u64);
-    read(rt, n[0], list)
+    if let Some(place) = list.get_mut(at) {
+        *place = value;
+    }
+    read(rt, length, list)
 }
 
 /// `numbers::write LENGTH` to a list of nines, `numbers::read LENGTH AT VALUE`. A LENGTH is at most one more than is written.
-pub(crate) fn run(rt: &impl Print, k: usize, n: &[usize; 6], w: Wire) -> io::Result<()> {
+#[derive(Clone, Copy)]
+pub(crate) enum Call {
+    Write(usize),
+    Read {
+        length: usize,
+        at: usize,
+        value: u64,
+    },
+}
+
+impl Call {
+    pub(crate) fn named(words: Words) -> Option<Call> {
+        match words {
+            ("numbers::write", [length], Parts::Neither) => Some(Call::Write(*length)),
+            ("numbers::read", [length, at, value], Parts::Neither) => Some(Call::Read {
+                length: *length,
+                at: *at,
+                value: *value as u64,
+            }),
+            _ => None,
+        }
+    }
+}
+
+pub(crate) fn run(rt: &impl Print, call: Call, w: Wire) -> io::Result<()> {
     let mut list = [9u64; 75];
-    if k == 0 {
-        write(rt, w, n[0], &mut list)
-    } else {
-        read_with(rt, w, n, &mut list)
+    match call {
+        Call::Write(length) => write(rt, w, length, &mut list),
+        Call::Read { length, at, value } => read_with(rt, w, length, at, value, &mut list),
     }
 }

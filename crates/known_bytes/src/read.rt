@@ -1,12 +1,9 @@
 //! A case: the words of a line after its name. First decimal numbers; after `of` the bytes that are read; after `on` the
 //! buffer that is written. Bytes are in hexadecimal, `254*01` is a row of equal ones, and `-` is none. What is read may also be a
 //! longer row of zeros alone.
-ghost use Rattle.std.specs.Prelude.{◌≤◌};
+ghost use Rattle.std.specs.Prelude.{◌≤◌, ◌<◌, IfSome};
 
-use crate::words;
-
-// A line that could not be read to its end. Else its parts are 1 for `of` and 2 for `on`.
-const UNREAD: usize = 9;
+use crate::calls::Call;
 
 // The most bytes of a message, and of a buffer.
 const MOST: usize = 65_552;
@@ -14,274 +11,226 @@ const MOST: usize = 65_552;
 /// The most zeros of a message that is zeros alone: one more than the longest that can be encoded.
 pub(crate) const MOST_ZEROS: usize = 1_048_577;
 
-/// Bytes and how many of them count; zeros alone may be more than the array holds. By value, since a check's time goes with what is
-/// lent as `&mut`.
+/// Bytes and how many of them count: with no heap, an array of the most. By value, since a buffer goes on only from a line that can
+/// be read.
 #[derive(Clone, Copy)]
 pub(crate) struct Bytes {
     pub all: [u8; 65_552],
     pub len: usize,
+    ghost fits: { len ≤ 65_552 },
 }
+
+/// What a call reads: bytes, or more zeros than their array holds.
+#[derive(Clone, Copy)]
+pub(crate) enum Message {
+    Bytes(Bytes),
+    Zeros(usize),
+}
+
+/// Which parts a line has.
+#[derive(Clone, Copy)]
+pub(crate) enum Parts {
+    Neither,
+    Of,
+    On,
+    Both,
+}
+
+/// A line's name, its numbers and its parts.
+pub(crate) type Words<'a> = (&'a str, &'a [usize], Parts);
 
 /// What a line says. A line without `on` keeps the buffer of the lines before it.
 #[derive(Clone, Copy)]
 pub(crate) struct Case {
-    pub parts: usize,
-    pub numbers: [usize; 6],
-    pub count: usize,
-    pub message: Bytes,
-    pub buffer: Bytes,
+    pub call: Call,
+    pub message: Message,
+    pub buffer: Option<Bytes>,
 }
 
-// Words that were read, and where the next one starts.
+// A row of equal bytes.
 #[derive(Clone, Copy)]
-struct Counted {
-    at: usize,
+struct Row {
+    count: usize,
+    byte: u8,
+}
+
+// The words that were read.
+#[derive(Clone, Copy)]
+struct Given {
     numbers: [usize; 6],
     count: usize,
+    message: Option<Message>,
+    buffer: Option<Bytes>,
 }
 
-// The same of bytes; `parts` is 0 where the word before them was not there.
-#[derive(Clone, Copy)]
-struct Span {
-    parts: usize,
-    at: usize,
-    bytes: Bytes,
-}
-
-#[derive(Clone, Copy)]
-struct Grown {
-    good: bool,
-    bytes: Bytes,
-}
-
-#[derive(Clone, Copy)]
-enum Number {
-    Is(usize),
-    Not,
-}
-
-// The number with one digit more, if that is a digit and the number still fits.
-fn further(n: usize, digit: u8) -> Number {
-    if digit < b'0' {
-        return Number::Not;
+fn decimal(word: &str) -> Option<usize> {
+    if word.starts_with('+') {
+        return None;
     }
-    if b'9' < digit {
-        return Number::Not;
-    }
-    let d = (digit - b'0') as usize;
-    if (18_446_744_073_709_551_615 - d) / 10 < n {
-        return Number::Not;
-    }
-    Number::Is(n * 10 + d)
-}
-
-fn decimal(w: &[u8]) -> Number {
-    if w.len() == 0 {
-        return Number::Not;
-    }
-    let mut n = 0;
-    let mut i = 0;
-    while i < w.len() {
-        let Number::Is(next) = further(n, w[i]) else {
-            return Number::Not;
-        };
-        n = next;
-        i += 1;
-    }
-    Number::Is(n)
-}
-
-// 256 for what is no digit.
-fn nibble(digit: u8) -> usize
-    ensures { result ≤ 256 }
-{
-    let n = words::find(b"0123456789abcdef", 0, digit);
-    if n < 16 {
-        return n;
-    }
-    256
-}
-
-// Two digits, and nothing after them; over 255 for anything else.
-fn octet(w: &[u8]) -> usize {
-    if w.len() != 2 {
-        return 256;
-    }
-    nibble(w[0]) * 16 + nibble(w[1])
-}
-
-fn fill(all: [u8; 65_552], from: usize, to: usize, b: u8) -> [u8; 65_552]
-    requires { to ≤ 65_552 }
-{
-    let mut out = all;
-    let mut i = from;
-    while i < to {
-        out[i] = b;
-        i += 1;
-    }
-    out
-}
-
-fn bad(bytes: Bytes) -> Grown {
-    Grown { good: false, bytes }
-}
-
-// More than the array holds, from its start on, where it holds zeros.
-fn zeros(bytes: Bytes, n: usize, b: usize) -> Grown {
-    let all = bytes.all;
-    let good = bytes.len == 0 && b == 0 && n <= MOST_ZEROS;
-    let after = Bytes { all, len: n };
-    Grown { good, bytes: after }
-}
-
-// The bytes with n more, where they fit.
-fn more(bytes: Bytes, n: usize, b: usize) -> Grown {
-    let at = bytes.len;
-    if 255 < b {
-        return bad(bytes);
-    }
-    if MOST < at {
-        return bad(bytes);
-    }
-    if MOST - at < n {
-        return zeros(bytes, n, b);
-    }
-    let to = at + n;
-    let before = bytes.all;
-    let all = fill(before, at, to, b as u8);
-    let after = Bytes { all, len: to };
-    Grown {
-        good: true,
-        bytes: after,
-    }
-}
-
-// The bytes with those that the word says.
-fn row(bytes: Bytes, w: &[u8]) -> Grown {
-    if w.len() == 1 {
-        return Grown {
-            good: w[0] == b'-',
-            bytes,
-        };
-    }
-    let star = words::find(w, 0, b'*');
-    if star == w.len() {
-        return more(bytes, 1, octet(w));
-    }
-    let Number::Is(n) = decimal(&w[0..star]) else {
-        return bad(bytes);
-    };
-    let from = star + 1;
-    more(bytes, n, octet(&w[from..]))
-}
-
-// One past the most is counted, and not kept.
-fn with(numbers: [usize; 6], at: usize, n: usize) -> [usize; 6] {
-    let mut out = numbers;
-    if at < 6 {
-        out[at] = n;
-    }
-    out
+    word.parse().ok()
 }
 
 // A number below 0 is taken modulo 2 to the 64.
-fn signed(w: &[u8]) -> Number {
-    if w.len() == 0 {
-        return Number::Not;
-    }
-    if w[0] != b'-' {
-        return decimal(w);
-    }
-    let Number::Is(n) = decimal(&w[1..]) else {
-        return Number::Not;
+fn signed(word: &str) -> Option<usize> {
+    let Some(digits) = word.strip_prefix('-') else {
+        return decimal(word);
     };
-    Number::Is(0usize.wrapping_sub(n))
+    Some(0usize.wrapping_sub(decimal(digits)?))
 }
 
-// Up to the first word that is no number.
-fn numbers(line: &[u8], from: usize) -> Counted {
-    let mut numbers = [0usize; 6];
-    let mut count = 0;
-    let mut at = from;
-    while at < line.len() {
-        let end = words::find(line, at, b' ');
-        let Number::Is(n) = signed(&line[at..end]) else {
-            return Counted { at, numbers, count };
+fn nibble(digit: u8) -> Option<u8>
+    ensures { IfSome result (λ n. n < 16) }
+{
+    match digit {
+        b'0'..=b'9' => Some(digit - b'0'),
+        b'a'..=b'f' => Some(digit - b'a' + 10),
+        _ => None,
+    }
+}
+
+// Two digits, and nothing after them.
+fn octet(word: &str) -> Option<u8> {
+    let [high, low] = word.as_bytes() else {
+        return None;
+    };
+    Some(nibble(*high)? * 16 + nibble(*low)?)
+}
+
+impl Row {
+    fn parse(word: &str) -> Option<Row> {
+        let Some((count, byte)) = word.split_once('*') else {
+            return Some(Row {
+                count: 1,
+                byte: octet(word)?,
+            });
         };
-        let next = with(numbers, count, n);
-        numbers = next;
-        count += 1;
-        at = end + 1;
+        Some(Row {
+            count: decimal(count)?,
+            byte: octet(byte)?,
+        })
     }
-    Counted { at, numbers, count }
 }
 
-// Up to the first word that is no row of bytes.
-fn rows(line: &[u8], from: usize, parts: usize) -> Span {
-    let mut bytes = Bytes {
-        all: [0; 65_552],
-        len: 0,
-    };
-    let mut at = from;
-    while at < line.len() {
-        let end = words::find(line, at, b' ');
-        let next = row(bytes, &line[at..end]);
-        if !next.good {
-            return Span { parts, at, bytes };
-        }
-        bytes = next.bytes;
-        at = end + 1;
-    }
-    Span { parts, at, bytes }
-}
-
-// The word and the bytes after it; or the bytes that stand.
-fn part(line: &[u8], from: usize, word: &[u8], parts: usize, bytes: Bytes) -> Span {
-    if from < line.len() {
-        let end = words::find(line, from, b' ');
-        if words::same(&line[from..end], word) {
-            return rows(line, end + 1, parts);
+impl Bytes {
+    pub(crate) fn new() -> Bytes {
+        Bytes {
+            all: [0; 65_552],
+            len: 0,
         }
     }
-    Span {
-        parts: 0,
-        at: from,
-        bytes,
+
+    // The bytes with that row after them, where it fits.
+    fn with(self, row: Row) -> Option<Bytes> {
+        let len = self.len;
+        if MOST - len < row.count {
+            return None;
+        }
+        let to = len + row.count;
+        let mut all = self.all;
+        all[len..to].fill(row.byte);
+        Some(Bytes { all, len: to })
+    }
+
+    // The bytes with those that the word says.
+    fn with_word(self, word: &str) -> Option<Bytes> {
+        if word == "-" {
+            return Some(self);
+        }
+        self.with(Row::parse(word)?)
     }
 }
 
-/// The line's case, from `from` on, with the buffer that stands.
-pub(crate) fn read(line: &[u8], from: usize, stands: Bytes) -> Case {
-    let n = numbers(line, from);
-    let none = Bytes {
-        all: [0; 65_552],
-        len: 0,
-    };
-    let m = part(line, n.at, b"of", 1, none);
-    let d = part(line, m.at, b"on", 2, stands);
-    let numbers = n.numbers;
-    let message = m.bytes;
-    let buffer = d.bytes;
-    let parts = if d.at < line.len() {
-        UNREAD
-    } else if MOST < buffer.len {
-        UNREAD
-    } else {
-        m.parts % 2 + d.parts % 4
-    };
-    Case {
-        parts,
-        numbers,
-        count: n.count,
-        message,
-        buffer,
+impl Message {
+    // The same; zeros alone may be more than the array holds, and nothing follows them.
+    fn with_word(self, word: &str) -> Option<Message> {
+        if word == "-" {
+            return Some(self);
+        }
+        let row = Row::parse(word)?;
+        let Message::Bytes(bytes) = self else {
+            return None;
+        };
+        if bytes.len == 0 && row.byte == 0 && MOST < row.count && row.count <= MOST_ZEROS {
+            return Some(Message::Zeros(row.count));
+        }
+        Some(Message::Bytes(bytes.with(row)?))
     }
+}
+
+impl Given {
+    fn new() -> Given {
+        Given {
+            numbers: [0; 6],
+            count: 0,
+            message: None,
+            buffer: None,
+        }
+    }
+
+    // One past the most is counted, and not kept.
+    fn add(&mut self, n: usize) {
+        if let Some(slot) = self.numbers.get_mut(self.count) {
+            *slot = n;
+        }
+        self.count = self.count.saturating_add(1);
+    }
+
+    // One word more: of the buffer once `on` has come, and of the message once `of` has.
+    fn with(self, word: &str) -> Option<Given> {
+        let mut next = self;
+        if let Some(buffer) = self.buffer {
+            let longer = buffer.with_word(word)?;
+            next.buffer = Some(longer);
+        } else if word == "on" {
+            next.buffer = Some(Bytes::new());
+        } else if let Some(message) = self.message {
+            let longer = message.with_word(word)?;
+            next.message = Some(longer);
+        } else if word == "of" {
+            next.message = Some(Message::Bytes(Bytes::new()));
+        } else {
+            next.add(signed(word)?);
+        }
+        Some(next)
+    }
+
+    fn parts(&self) -> Parts {
+        match (self.message.is_some(), self.buffer.is_some()) {
+            (false, false) => Parts::Neither,
+            (true, false) => Parts::Of,
+            (false, true) => Parts::On,
+            (true, true) => Parts::Both,
+        }
+    }
+
+    // How many numbers there are is told by the last digit of their count.
+    fn call(&self, name: &str) -> Option<Call> {
+        let numbers = self.numbers.get(..self.count % 10)?;
+        Call::named((name, numbers, self.parts()))
+    }
+}
+
+// The word without the space that ends it.
+fn bare(word: &str) -> &str {
+    word.strip_suffix(' ').unwrap_or(word)
+}
+
+/// What the line says, if it can be read to its end.
+pub(crate) fn read(line: &[u8]) -> Option<Case> {
+    let mut words = str::from_utf8(line).ok()?.split_inclusive(' ');
+    let name = bare(words.next()?);
+    let mut given = Given::new();
+    for word in words {
+        given = given.with(bare(word))?;
+    }
+    Some(Case {
+        call: given.call(name)?,
+        message: given.message.unwrap_or(Message::Bytes(Bytes::new())),
+        buffer: given.buffer,
+    })
 }
 
 /// The first byte; 0 if there is none.
 pub(crate) fn first(m: &[u8]) -> u8 {
-    if m.len() == 0 {
-        return 0;
-    }
-    m[0]
+    m.first().copied().unwrap_or(0)
 }

@@ -1,34 +1,22 @@
 //! Records: written, read and written again, classed, and as a frame.
+use crate::read::{Parts, Words};
 use crate::{say, words};
-use record::frame::FrameWritten;
-use record::{Class, ReadAnswer, Record, WriteAnswer};
+use record::{Class, Record};
 use std::io;
 
 fn write(rt: &impl Print, item: Record) -> io::Result<()> {
     let done = record::write(item);
-    let answer = done.answer;
-    match answer {
-        WriteAnswer::Done => {
-            say::word(rt, words::DONE)?;
-        }
-        WriteAnswer::BadRecord => {
-            say::word(rt, words::BAD_RECORD)?;
-        }
+    match done.answer {
+        Ok(()) => say::word(rt, words::DONE)?,
+        Err(e) => print!(rt; "{e}")?,
     }
     say::word(rt, words::SEMICOLON)?;
     say::bytes(rt, &done.bytes)
 }
 
 // From 16 bits of two's complement.
-fn signed(n: u16) -> i16 {
-    if n < 32_768 {
-        return n as i16;
-    }
-    ((n as i32) - 65_536) as i16
-}
-
 fn place(n: usize) -> i16 {
-    signed(short(n))
+    short(n).cast_signed()
 }
 
 fn short(n: usize) -> u16 {
@@ -37,31 +25,6 @@ fn short(n: usize) -> u16 {
 
 fn long(n: usize) -> u32 {
     (n % 4_294_967_296) as u32
-}
-
-fn particle(rt: &impl Print, n: &[usize; 6]) -> io::Result<()> {
-    write(
-        rt,
-        Record::Particle {
-            batch: short(n[0]),
-            index: short(n[1]),
-            x: place(n[2]),
-            y: place(n[3]),
-            z: place(n[4]),
-            weight: long(n[5]),
-        },
-    )
-}
-
-fn close(rt: &impl Print, n: &[usize; 6]) -> io::Result<()> {
-    write(
-        rt,
-        Record::Close {
-            batch: short(n[0]),
-            count: short(n[1]),
-            total: long(n[2]),
-        },
-    )
 }
 
 fn shown(rt: &impl Print, item: Record) -> io::Result<()> {
@@ -92,19 +55,18 @@ fn shown(rt: &impl Print, item: Record) -> io::Result<()> {
 
 // What is read is written again, so that x, y and z show.
 fn read(rt: &impl Print, at: usize, m: &[u8]) -> io::Result<()> {
-    let found = record::read(m, at);
-    match found {
-        ReadAnswer::Good(item) => {
+    match record::read(m, at) {
+        Ok(item) => {
             shown(rt, item)?;
             say::word(rt, words::WRITTEN)?;
             write(rt, item)
         }
-        ReadAnswer::BadRecord => say::word(rt, words::BAD_RECORD),
+        Err(e) => print!(rt; "{e}"),
     }
 }
 
-fn class(rt: &impl Print, theirs: usize, ours: usize) -> io::Result<()> {
-    let found = record::class_of(short(theirs), short(ours));
+fn class(rt: &impl Print, theirs: u16, ours: u16) -> io::Result<()> {
+    let found = record::class_of(theirs, ours);
     match found {
         Class::Ours => say::word(rt, words::OURS),
         Class::Ahead => say::word(rt, words::AHEAD),
@@ -112,29 +74,60 @@ fn class(rt: &impl Print, theirs: usize, ours: usize) -> io::Result<()> {
     }
 }
 
-fn answer(rt: &impl Print, found: FrameWritten) -> io::Result<()> {
-    match found {
-        FrameWritten::Length(n) => say::number(rt, n),
-        FrameWritten::BadLength => say::word(rt, words::BAD_LENGTH),
-        FrameWritten::BadRecord(k) => say::numbered(rt, words::BAD_RECORD, k),
-        FrameWritten::DestBufTooSmall => say::word(rt, words::DEST_BUF_TOO_SMALL),
-    }
-}
-
-/// `write_frame of MESSAGE on BUFFER`.
-pub(crate) fn frame(rt: &impl Print, message: &[u8], dest: &mut [u8]) -> io::Result<()> {
-    answer(rt, record::frame::write_frame(message, dest))?;
+fn frame(rt: &impl Print, message: &[u8], dest: &mut [u8]) -> io::Result<()> {
+    say::answer(rt, record::frame::write_frame(message, dest))?;
     say::holds(rt, dest)
 }
 
 /// `write_particle BATCH INDEX X Y Z WEIGHT`, `write_close BATCH COUNT TOTAL`, `read AT of BYTES`,
-/// `class_of THEIRS OURS`, `is_bad_length LENGTH`. A number is taken modulo its field's size.
-pub(crate) fn run(rt: &impl Print, k: usize, n: &[usize; 6], m: &[u8]) -> io::Result<()> {
-    match k {
-        0 => particle(rt, n),
-        1 => close(rt, n),
-        2 => read(rt, n[0], m),
-        3 => class(rt, n[0], n[1]),
-        _ => say::flag(rt, record::frame::is_bad_length(n[0])),
+/// `class_of THEIRS OURS`, `is_bad_length LENGTH`, `write_frame of MESSAGE on BUFFER`. A number is taken modulo its field's size.
+#[derive(Clone, Copy)]
+pub(crate) enum Call {
+    Write(Record),
+    Read(usize),
+    ClassOf { theirs: u16, ours: u16 },
+    IsBadLength(usize),
+    WriteFrame,
+}
+
+impl Call {
+    pub(crate) fn named(words: Words) -> Option<Call> {
+        match words {
+            ("write_particle", [batch, index, x, y, z, weight], Parts::Neither) => Some(
+                Call::Write(Record::Particle {
+                    batch: short(*batch),
+                    index: short(*index),
+                    x: place(*x),
+                    y: place(*y),
+                    z: place(*z),
+                    weight: long(*weight),
+                }),
+            ),
+            ("write_close", [batch, count, total], Parts::Neither) => Some(Call::Write(
+                Record::Close {
+                    batch: short(*batch),
+                    count: short(*count),
+                    total: long(*total),
+                },
+            )),
+            ("read", [at], Parts::Of) => Some(Call::Read(*at)),
+            ("class_of", [theirs, ours], Parts::Neither) => Some(Call::ClassOf {
+                theirs: short(*theirs),
+                ours: short(*ours),
+            }),
+            ("is_bad_length", [n], Parts::Neither) => Some(Call::IsBadLength(*n)),
+            ("write_frame", [], Parts::Both) => Some(Call::WriteFrame),
+            _ => None,
+        }
+    }
+}
+
+pub(crate) fn run(rt: &impl Print, call: Call, m: &[u8], dest: &mut [u8]) -> io::Result<()> {
+    match call {
+        Call::Write(item) => write(rt, item),
+        Call::Read(at) => read(rt, at, m),
+        Call::ClassOf { theirs, ours } => class(rt, theirs, ours),
+        Call::IsBadLength(n) => say::flag(rt, record::frame::is_bad_length(n)),
+        Call::WriteFrame => frame(rt, m, dest),
     }
 }

@@ -1,7 +1,8 @@
 //! The encoder in pieces: it and its buffer stay from line to line.
+use crate::read::{Parts, Words};
 use crate::{alone, say, words};
 use enc::state::EncoderState;
-use enc::stream::{Accepted, Encoder, Finished, Started};
+use enc::stream::{Encoder, PushError, Pushed};
 use std::io;
 
 fn shown(rt: &impl Print, e: Encoder) -> io::Result<()> {
@@ -13,48 +14,36 @@ fn shown(rt: &impl Print, e: Encoder) -> io::Result<()> {
     say::named(rt, words::COUNT, e.count)
 }
 
-fn set(rt: &impl Print, n: &[usize; 6]) -> io::Result<Encoder> {
-    let state = EncoderState {
-        place: n[0],
-        code: (n[1] % 256) as u8,
-    };
-    let encoder = Encoder {
-        state,
-        full: n[2] != 0,
-        count: n[3],
-    };
-    shown(rt, encoder)?;
-    Ok(encoder)
-}
-
-fn new(rt: &impl Print) -> io::Result<Encoder> {
-    let encoder = Encoder::new();
+fn made(rt: &impl Print, encoder: Encoder) -> io::Result<Encoder> {
     shown(rt, encoder)?;
     Ok(encoder)
 }
 
 fn start(rt: &impl Print, e: Encoder, dest: &[u8]) -> io::Result<Encoder> {
-    let Started::Ready(encoder) = Encoder::start(dest) else {
-        say::word(rt, words::DEST_BUF_TOO_SMALL)?;
-        return Ok(e);
-    };
-    shown(rt, encoder)?;
-    Ok(encoder)
+    match Encoder::start(dest) {
+        Ok(encoder) => {
+            shown(rt, encoder)?;
+            Ok(encoder)
+        }
+        Err(refusal) => {
+            print!(rt; "{refusal}")?;
+            Ok(e)
+        }
+    }
 }
 
-pub(crate) fn answer(rt: &impl Print, found: Accepted) -> io::Result<()> {
+pub(crate) fn answer(rt: &impl Print, found: Result<(), PushError>) -> io::Result<()> {
     match found {
-        Accepted::Accepted => say::word(rt, words::ACCEPTED),
-        Accepted::BadState => say::word(rt, words::BAD_STATE),
-        Accepted::TooLong => say::word(rt, words::TOO_LONG),
-        Accepted::DestBufTooSmall => say::word(rt, words::DEST_BUF_TOO_SMALL),
+        Ok(()) => say::word(rt, words::ACCEPTED),
+        Err(refusal) => print!(rt; "{refusal}"),
     }
 }
 
 fn push(rt: &impl Print, e: Encoder, piece: &[u8], dest: &mut [u8]) -> io::Result<Encoder> {
-    let pushed = e.push(dest, piece);
-    let found = pushed.answer;
-    let next = pushed.next;
+    let Pushed {
+        answer: found,
+        next,
+    } = e.push(dest, piece);
     answer(rt, found)?;
     say::word(rt, words::COMMA)?;
     shown(rt, next)?;
@@ -62,34 +51,54 @@ fn push(rt: &impl Print, e: Encoder, piece: &[u8], dest: &mut [u8]) -> io::Resul
     Ok(next)
 }
 
-pub(crate) fn finished(rt: &impl Print, found: Finished) -> io::Result<()> {
-    match found {
-        Finished::Length(n) => say::number(rt, n),
-        Finished::BadState => say::word(rt, words::BAD_STATE),
-    }
-}
-
 fn finish(rt: &impl Print, e: Encoder, dest: &mut [u8]) -> io::Result<Encoder> {
-    finished(rt, e.finalize(dest))?;
+    say::answer(rt, e.finalize(dest))?;
     say::holds(rt, dest)?;
     Ok(e)
 }
 
 /// `Encoder::start on BUFFER`, `Encoder::push of PIECE`, `Encoder::finalize`, `Encoder::new`; and an encoder of given numbers,
 /// `Encoder PLACE CODE FULL COUNT`, also with `on BUFFER`.
+#[derive(Clone, Copy)]
+pub(crate) enum Call {
+    Start,
+    Push,
+    Finalize,
+    New,
+    Given(Encoder),
+}
+
+impl Call {
+    pub(crate) fn named(words: Words) -> Option<Call> {
+        match words {
+            ("Encoder::start", [], Parts::On) => Some(Call::Start),
+            ("Encoder::push", [], Parts::Of) => Some(Call::Push),
+            ("Encoder::finalize", [], Parts::Neither) => Some(Call::Finalize),
+            ("Encoder::new", [], Parts::Neither) => Some(Call::New),
+            ("Encoder", [place, code, full, count], Parts::Neither | Parts::On) => Some(
+                Call::Given(Encoder {
+                    state: alone::given(*place, *code),
+                    full: *full != 0,
+                    count: *count,
+                }),
+            ),
+            _ => None,
+        }
+    }
+}
+
 pub(crate) fn run(
     rt: &impl Print,
-    k: usize,
-    n: &[usize; 6],
+    call: Call,
     e: Encoder,
     m: &[u8],
     dest: &mut [u8],
 ) -> io::Result<Encoder> {
-    match k {
-        0 => start(rt, e, dest),
-        1 => push(rt, e, m, dest),
-        2 => finish(rt, e, dest),
-        3 => new(rt),
-        _ => set(rt, n),
+    match call {
+        Call::Start => start(rt, e, dest),
+        Call::Push => push(rt, e, m, dest),
+        Call::Finalize => finish(rt, e, dest),
+        Call::New => made(rt, Encoder::new()),
+        Call::Given(encoder) => made(rt, encoder),
     }
 }

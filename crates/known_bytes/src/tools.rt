@@ -1,4 +1,5 @@
 //! Sixteen bytes at once, and a front XORed.
+use crate::read::{Parts, Words};
 use crate::{say, words};
 use blocks::Taken;
 use std::io;
@@ -15,32 +16,51 @@ fn taken(rt: &impl Print, found: Taken) -> io::Result<()> {
 
 /// `clear16 AT of BYTES`, `all16 AT VALUE of BYTES`, `take16 AT FROM of SOURCE on BUFFER`, `copy16 AT FROM of SOURCE on BUFFER`,
 /// `fill16 AT VALUE on BUFFER`, `mask COUNT SENTINEL on BUFFER`.
-pub(crate) fn run(
-    rt: &impl Print,
-    k: usize,
-    at: usize,
-    second: usize,
-    m: &[u8],
-    dest: &mut [u8],
-) -> io::Result<()> {
-    let value = (second % 256) as u8;
-    match k {
-        0 => say::flag(rt, blocks::clear16(m, at)),
-        1 => say::flag(rt, blocks::all16(m, at, value)),
-        2 => {
-            taken(rt, blocks::take16(dest, at, m, second))?;
+#[derive(Clone, Copy)]
+pub(crate) enum Call {
+    Clear16(usize),
+    All16(usize, u8),
+    Take16(usize, usize),
+    Copy16(usize, usize),
+    Fill16(usize, u8),
+    Mask(usize, u8),
+}
+
+impl Call {
+    pub(crate) fn named(words: Words) -> Option<Call> {
+        match words {
+            ("clear16", [at], Parts::Of) => Some(Call::Clear16(*at)),
+            ("all16", [at, value], Parts::Of) => Some(Call::All16(*at, (*value % 256) as u8)),
+            ("take16", [at, from], Parts::Both) => Some(Call::Take16(*at, *from)),
+            ("copy16", [at, from], Parts::Both) => Some(Call::Copy16(*at, *from)),
+            ("fill16", [at, value], Parts::On) => Some(Call::Fill16(*at, (*value % 256) as u8)),
+            ("mask", [count, sentinel], Parts::On) => Some(Call::Mask(
+                *count,
+                (*sentinel % 256) as u8,
+            )),
+            _ => None,
+        }
+    }
+}
+
+pub(crate) fn run(rt: &impl Print, call: Call, m: &[u8], dest: &mut [u8]) -> io::Result<()> {
+    match call {
+        Call::Clear16(at) => say::flag(rt, blocks::clear16(m, at)),
+        Call::All16(at, value) => say::flag(rt, blocks::all16(m, at, value)),
+        Call::Take16(at, from) => {
+            taken(rt, blocks::take16(dest, at, m, from))?;
             say::holds(rt, dest)
         }
-        3 => {
-            blocks::copy16(dest, at, m, second);
+        Call::Copy16(at, from) => {
+            blocks::copy16(dest, at, m, from);
             say::left(rt, dest)
         }
-        4 => {
+        Call::Fill16(at, value) => {
             blocks::fill16(dest, at, value);
             say::left(rt, dest)
         }
-        _ => {
-            blocks::mask(dest, at, value);
+        Call::Mask(count, sentinel) => {
+            blocks::mask(dest, count, sentinel);
             say::left(rt, dest)
         }
     }

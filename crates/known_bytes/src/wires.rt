@@ -1,9 +1,11 @@
 //! From the wire to the receiver: both states stay from line to line.
+use crate::read::{Parts, Words};
 use crate::{say, words};
+use batch::Standing;
 use dec::state::DecoderState;
 use dec::stream::CobsDecoder;
 use std::io;
-use wire::{Received, Wire};
+use wire::{Refusal, Wire};
 
 /// Both states, and the decoder's buffer.
 #[derive(Clone, Copy)]
@@ -12,36 +14,16 @@ pub(crate) struct Side {
     pub buffer: [u8; 32],
 }
 
-// How the batch stands after a frame that was taken.
-fn standing(rt: &impl Print, found: Received) -> io::Result<()> {
+fn answer(rt: &impl Print, found: Result<Option<Standing>, Refusal>) -> io::Result<()> {
     match found {
-        Received::Open => say::word(rt, words::OPEN),
-        Received::Missing(k) => say::numbered(rt, words::MISSING, k),
-        Received::Complete => say::word(rt, words::COMPLETE),
-        Received::Differs => say::word(rt, words::DIFFERS),
-        _ => Ok(()),
+        Ok(None) => say::word(rt, words::MORE),
+        Ok(Some(standing)) => print!(rt; "{standing}"),
+        Err(refusal) => print!(rt; "{refusal}"),
     }
 }
 
-fn answer(rt: &impl Print, found: Received) -> io::Result<()> {
-    match found {
-        Received::More => say::word(rt, words::MORE),
-        Received::InvalidFrame { decoded } => say::named(rt, words::INVALID_FRAME, decoded),
-        Received::TargetBufTooSmall => say::word(rt, words::TARGET_BUF_TOO_SMALL),
-        Received::BadState => say::word(rt, words::BAD_STATE),
-        Received::BadLength => say::word(rt, words::BAD_LENGTH),
-        Received::BadRecord(k) => say::numbered(rt, words::BAD_RECORD, k),
-        Received::Stale(k) => say::numbered(rt, words::STALE, k),
-        Received::Ahead(k) => say::numbered(rt, words::AHEAD, k),
-        Received::NoRoom(k) => say::numbered(rt, words::NO_ROOM, k),
-        Received::BeyondClose(k) => say::numbered(rt, words::BEYOND_CLOSE, k),
-        Received::Conflict(k) => say::numbered(rt, words::CONFLICT, k),
-        _ => standing(rt, found),
-    }
-}
-
-fn open(rt: &impl Print, number: usize, table: &[u8]) -> io::Result<Wire> {
-    let w = Wire::open((number % 65_536) as u16, table);
+fn open(rt: &impl Print, number: u16, table: &[u8]) -> io::Result<Wire> {
+    let w = Wire::open(number, table);
     let r = w.receiver;
     say::named(rt, words::BATCH, r.batch as usize)?;
     say::named(rt, words::SLOTS, r.slots)?;
@@ -67,20 +49,6 @@ fn receive(
 }
 
 // On the first bytes of the decoder's buffer, or on all of it.
-fn on_room(
-    rt: &impl Print,
-    w: Wire,
-    room: usize,
-    piece: &[u8],
-    buffer: &mut [u8],
-    table: &mut [u8],
-) -> io::Result<Wire> {
-    if buffer.len() < room {
-        return receive(rt, w, piece, buffer, table);
-    }
-    receive(rt, w, piece, &mut buffer[0..room], table)
-}
-
 fn brought(
     rt: &impl Print,
     held: Side,
@@ -90,7 +58,8 @@ fn brought(
 ) -> io::Result<Side> {
     let w = held.wire;
     let mut buffer = held.buffer;
-    let wire = on_room(rt, w, room, piece, &mut buffer, table)?;
+    let room = room.min(buffer.len());
+    let wire = receive(rt, w, piece, &mut buffer[..room], table)?;
     Ok(Side { wire, buffer })
 }
 
@@ -118,17 +87,34 @@ fn with_wire(held: Side, wire: Wire) -> Side {
 }
 
 /// `Wire::open BATCH on TABLE`, `wire::receive ROOM of PIECE` with so many bytes for the decoder, and `Wire::decoder PLACE`.
+#[derive(Clone, Copy)]
+pub(crate) enum Call {
+    Open(u16),
+    Receive(usize),
+    Decoder(usize),
+}
+
+impl Call {
+    pub(crate) fn named(words: Words) -> Option<Call> {
+        match words {
+            ("Wire::open", [batch], Parts::On) => Some(Call::Open((*batch % 65_536) as u16)),
+            ("wire::receive", [room], Parts::Of) => Some(Call::Receive(*room)),
+            ("Wire::decoder", [place], Parts::Neither) => Some(Call::Decoder(*place)),
+            _ => None,
+        }
+    }
+}
+
 pub(crate) fn run(
     rt: &impl Print,
-    k: usize,
-    n: usize,
+    call: Call,
     held: Side,
     m: &[u8],
     table: &mut [u8],
 ) -> io::Result<Side> {
-    match k {
-        0 => Ok(with_wire(held, open(rt, n, table)?)),
-        1 => brought(rt, held, n, m, table),
-        _ => Ok(with_decoder(held, decoder(rt, n)?)),
+    match call {
+        Call::Open(number) => Ok(with_wire(held, open(rt, number, table)?)),
+        Call::Receive(room) => brought(rt, held, room, m, table),
+        Call::Decoder(place) => Ok(with_decoder(held, decoder(rt, place)?)),
     }
 }

@@ -1,10 +1,10 @@
 //! One mark bit for each of 4,096 indices, in 64 words of 64 bits: index i has bit i % 64 of word i / 64.
 #![tactic(auto)]
 
-ghost use Rattle.std.specs.Prelude.{◌≡◌, ◌*◌, ◌<◌, ◌≤◌, length, get_or, set};
+ghost use Rattle.std.specs.Prelude.{◌≡◌, ◌<◌, ◌^◌, get_or, sum_by};
 ghost use Rattle.marks.specs.Marks.{bit_at, with_bit, no_marks, marked, set_mark, count_below, marked_below};
 
-/// The words that hold the marks.
+/// The words that hold the marks. No struct: `numbers_of` and `wire_in` (crates/numbers), by which C keeps a state, list these words.
 pub type Marks = [u64; 64];
 
 /// No index is marked.
@@ -25,9 +25,11 @@ pub fn is_marked(marks: &Marks, i: usize) -> bool
 pub fn mark(marks: &mut Marks, i: usize)
     ensures { marks.new ≡ set_mark marks.old i }
 {
+    // By index: of what is written through `get_mut` of an array no proof finds an element.
     let k = i / 64;
-    let w = with_bit(word(marks, k), (i % 64) as u64);
-    set_word(marks, k, w);
+    if k < marks.len() {
+        marks[k] = with_bit(marks[k], (i % 64) as u64);
+    }
 }
 
 /// How many of the 4,096 indices are marked.
@@ -42,43 +44,25 @@ pub fn count_below(marks: &Marks, n: usize) -> usize
     ensures { result ≡ marked_below marks.now n }
 {
     if 4096 <= n {
-        return count_words(marks, 64);
+        return count_words(marks);
     }
     let k = n / 64;
-    count_words(marks, k) + ones_below(word(marks, k), (n % 64) as u64)
+    count_words(&marks[..k]) + ones_below(marks[k], (n % 64) as u64)
 }
 
-// How many indices are marked in the first n words.
-fn count_words(words: &[u64], n: usize) -> usize
-    requires { (n ≤ 64) × (n ≤ length words.now) }
-    ensures { result ≡ marked_below words.now (64 * n) }
+// How many indices are marked in the words.
+fn count_words(words: &[u64]) -> usize
+    requires { sum_by (λ w. count_below (bit_at w) 64) words.now < 2 ^ 64 }
+    ensures { result ≡ sum_by (λ w. count_below (bit_at w) 64) words.now }
 {
-    let mut sum: usize = 0;
-    let mut k: usize = 0;
-    while k < n {
-        sum += ones(words[k]);
-        k += 1;
-    }
-    sum
+    words.iter().map(|w| ones(*w)).sum()
 }
 
 // Word k. One that is not there has no bit set.
 fn word(words: &[u64], k: usize) -> u64
     ensures { result ≡ get_or words.now k 0 }
 {
-    if k < words.len() {
-        return words[k];
-    }
-    0
-}
-
-// Stores word k. One that is not there changes nothing.
-fn set_word(words: &mut [u64], k: usize, w: u64)
-    ensures { words.new ≡ set words.old k w }
-{
-    if k < words.len() {
-        words[k] = w;
-    }
+    words.get(k).copied().unwrap_or(0)
 }
 
 // Bit s of w is 1.

@@ -1,24 +1,28 @@
 -- Numbers and the states they name: a state's numbers name it, numbers that name a state are its own, and what the calls
 -- leave. Assumes nothing.
+use Rattle.std.specs.Prelude.{Option, Some, None}
 use mathlib.Core.Path.{◌≡◌, refl, sym, ap, ap₂, ◌∙◌}
 use mathlib.Core.Logic.{◌≢◌}
 use mathlib.Core.Bool.{Bool, true, false, true≢false, not}
 use mathlib.Core.List.{List, [], ◌∷◌, ◌++◌, append-nil}
-use Prim.Native.Nat.{ℕ, ◌%◌, ◌<◌}
+use Prim.Native.Nat.{ℕ, ◌-◌, ◌%◌, ◌<◌}
 use native.Mathlib.Omega.{arith}
 use lib.Dec.{eqb}
 use lib.ListN.{length, get_or, take, drop, length-append, length-drop, take-append-drop, drop_of_length-le}
-use lib.Seq.{paste, take-paste, length-paste, take_at}
+use lib.Seq.{take_at}
+use borrow.Rule.Slice.PartMut.{put_mid}
+use mir.Val.{bool_byte}
 use borrow.Author.Tests.{eq-eqb, ne_eqb}
+use Rattle.std.specs.Prelude.{Option, Some, None}
+use Rattle.std.specs.List.{starts_with}
 use Rattle.dec.proofs.Cases.{by_bool}
 use Rattle.dec.specs.declared.state.DecoderState.{DecoderState}
 use Rattle.dec.specs.declared.state.DecoderState.TheVariants.{Idle, Grab, GrabChain}
 use Rattle.batch.specs.declared.Close.{Close}
-use Rattle.batch.specs.declared.Close.TheVariants.{Not, Taken}
 use Rattle.wire.specs.declared.Wire.{Wire}
-use Rattle.numbers.specs.Numbers.{bit, state_numbers, close_numbers, head_of, numbers_of, state_in, close_in, wire_in, same, names, unnamed, read_of, written_to, read_back}
+use Rattle.numbers.specs.Numbers.{bit, state_numbers, close_numbers, head_of, numbers_of, state_in, close_in, wire_in, names, read_of, written_to, read_back}
 use Rattle.numbers.specs.Helpers.{Fits}
-use Rattle.numbers.proofs.Same.{same_equal, same-itself}
+use Rattle.numbers.proofs.Same.{same_equal, same-itself, starts_yes, starts_no}
 
 take_all : (l : List ℕ) (n : ℕ) → length l ≡ n → take n l ≡ l
 take_all l n e = ap (take n) (sym (append-nil l)) ∙ take_at l [] n e
@@ -33,11 +37,14 @@ head_is w b kind left taken count total eb es ec =
     ap (λ (x : ℕ). w.decoder.place ∷ x ∷ kind ∷ left ∷ w.receiver.total ∷ taken ∷ count ∷ total ∷ w.receiver.slots ∷ w.receiver.batch ∷ []) eb
     ∙ ap₂ (λ (x y : List ℕ). w.decoder.place ∷ bit w.decoder.skip ∷ x ++ w.receiver.total ∷ y ++ w.receiver.slots ∷ w.receiver.batch ∷ []) es ec
 
-pub marks-all : (zeros ns : List ℕ) → length zeros ≡ 64 → length ns ≡ 74 → paste zeros 0 (drop 10 ns) 64 ≡ drop 10 ns
-marks-all zeros ns z h =
-    ap₂ ◌++◌ (take_all (drop 10 ns) 64 (length-drop 10 ns ∙ omega arith)) (drop_of_length-le zeros {i = 64} (omega arith)) ∙ append-nil (drop 10 ns)
+pub marks-all : (ns : List ℕ) → length ns ≡ 74 → take 64 (drop 10 ns) ≡ drop 10 ns
+marks-all ns h = take_all (drop 10 ns) 64 (length-drop 10 ns ∙ omega arith)
 
-pub wire_is : (ns : List ℕ) (s : DecoderState) (marks : List ℕ) (c : Close) → s ≡ state_in (get_or ns 2 0) (get_or ns 3 0) → marks ≡ drop 10 ns
+pub bit_is : (b : Bool) → bool_byte b ≡ bit b
+bit_is true = refl
+bit_is false = refl
+
+pub wire_is : (ns : List ℕ) (s : DecoderState) (marks : List ℕ) (c : Option Close) → s ≡ state_in (get_or ns 2 0) (get_or ns 3 0) → marks ≡ drop 10 ns
     → c ≡ close_in (get_or ns 5 0) (get_or ns 6 0) (get_or ns 7 0)
     → record {
       decoder = record { place = get_or ns 0 0; skip = not (eqb (get_or ns 1 0) 0); state = s };
@@ -48,65 +55,70 @@ wire_is ns s marks c es em ec = rw (es, em, ec) refl
 
 -- ---- what the calls leave
 
--- read
-pub read-long : (ns : List ℕ) → length ns ≢ 74 → unnamed ≡ read_of ns
-unfolding read_of names
-read-long ns h = rw (ne_eqb (length ns) 74 h)
-
-module _ (ns : List ℕ) (long : length ns ≡ 74) (w : Wire) (is : w ≡ wire_in ns) (h : List ℕ) (head : h ≡ head_of w) where
-  pub read_named : same (take 10 ns) h ≡ true → record { named = true; wire = w } ≡ read_of ns
-  unfolding read_of names
-  read_named e = rw (eq-eqb (length ns) 74 long, ← is, ← head, e) refl
-
-  pub read-other : same (take 10 ns) h ≡ false → unnamed ≡ read_of ns
-  unfolding read_of names
-  read-other e = rw (eq-eqb (length ns) 74 long, ← is, ← head, e) refl
-
-pub read-named_is : (ns : List ℕ) → (read_of ns).named ≡ names ns
-unfolding read_of
-read-named_is ns = by_bool (names ns) (λ q. rw q refl) (λ q. rw q refl)
-
-pub read_wire_is : (ns : List ℕ) → names ns ≡ true → (read_of ns).wire ≡ wire_in ns
-unfolding read_of
-read_wire_is ns e = rw e refl
-
--- written
 head-long : (w : Wire) → length (head_of w) ≡ 10
 unfolding head_of
 head-long w = go w.decoder.state w.receiver.close
   where
-    go : (s : DecoderState) (c : Close)
+    go : (s : DecoderState) (c : Option Close)
         → length (w.decoder.place ∷ bit w.decoder.skip ∷ state_numbers s ++ w.receiver.total ∷ close_numbers c ++ w.receiver.slots ∷ w.receiver.batch ∷ []) ≡ 10
-    go Idle Not = refl
-    go Idle (Taken n t) = refl
-    go (Grab k) Not = refl
-    go (Grab k) (Taken n t) = refl
-    go (GrabChain k) Not = refl
-    go (GrabChain k) (Taken n t) = refl
+    go Idle None = refl
+    go Idle (Some c) = refl
+    go (Grab k) None = refl
+    go (Grab k) (Some c) = refl
+    go (GrabChain k) None = refl
+    go (GrabChain k) (Some c) = refl
 
+-- read
+pub read-long : (ns : List ℕ) → length ns ≢ 74 → None ≡ read_of ns
+unfolding read_of names
+read-long ns h = rw (ne_eqb (length ns) 74 h)
+
+-- all of them are read, as w, whose head is h
+module _ (ns all : List ℕ) (long : length ns ≡ 74) (same_all : all ≡ ns) (w : Wire) (is : w ≡ wire_in all) (h : List ℕ) (head : h ≡ head_of w) (t : Bool)
+    (found : t ≡ starts_with eqb ns h) where
+  ours : w ≡ wire_in ns
+  ours = is ∙ ap wire_in same_all
+
+  ten_ahead : length h ≡ 10
+  ten_ahead = ap length head ∙ head-long w
+
+  pub read_named : t ≡ true → Some w ≡ read_of ns
+  unfolding read_of names
+  read_named e =
+      rw (eq-eqb (length ns) 74 long, ← ours, ← head, starts_yes ns h ten_ahead (sym found ∙ e)) refl
+
+  pub read-other : t ≡ false → None ≡ read_of ns
+  unfolding read_of names
+  read-other e =
+      rw (eq-eqb (length ns) 74 long, ← ours, ← head, starts_no ns h ten_ahead (sym found ∙ e)) refl
+
+-- what an answer says of the numbers
+pub named_by : (ns : List ℕ) (w : Wire) → Some w ≡ read_of ns → (names ns ≡ true) × (w ≡ wire_in ns)
+unfolding read_of
+named_by ns w e = by_bool (names ns) (λ q. (q, let s : Some w ≡ Some (wire_in ns) = rw q at e in cc)) (λ q. let s : Some w ≡ None = rw q at e in absurd (cc))
+
+pub none_by : (ns : List ℕ) → None ≡ read_of ns → names ns ≡ false
+unfolding read_of
+none_by ns e = by_bool (names ns) (λ q. let s : None ≡ Some (wire_in ns) = rw q at e in absurd (cc)) (λ q. q)
+
+-- written
 pub write-long : (ns : List ℕ) (w : Wire) → length ns ≢ 74 → ns ≡ written_to ns w
 unfolding written_to
 write-long ns w h = rw (ne_eqb (length ns) 74 h)
 
--- the head h is written first, which leaves x
-module _ (ns : List ℕ) (w : Wire) (long : length ns ≡ 74) (h : List ℕ) (head : h ≡ head_of w) (x : List ℕ) (first : x ≡ paste ns 0 h 10) where
-  ten : length h ≡ 10
-  ten = ap length head ∙ head-long w
+-- the head x is written first, and then the marks m
+put_rest : (xs m : List ℕ) → put_mid 10 (length xs - 10) xs m ≡ take 10 xs ++ m
+put_rest xs m =
+    ap (λ (t : List ℕ). take 10 xs ++ (m ++ t)) (drop_of_length-le (drop 10 xs) {i = length xs - 10} (omega (arith, length-drop 10 xs)))
+    ∙ ap (λ (t : List ℕ). take 10 xs ++ t) (append-nil m)
 
-  pub first-long : length x ≡ 74
-  first-long = ap length first ∙ length-paste ns 0 h 10 (omega arith) (omega (arith, ten)) ∙ long
-
-  pub write-both : (marks y : List ℕ) → marks ≡ w.receiver.marks → length marks ≡ 64 → y ≡ paste x 10 marks 64 → y ≡ written_to ns w
-  unfolding written_to numbers_of
-  write-both marks y is words second =
-      second
-      ∙ ap₂ ◌++◌
-      (ap₂ ◌++◌
-      (ap (take 10) first ∙ take-paste ns 0 h 10 (omega arith) (omega (arith, ten)) ∙ take_all h 10 ten ∙ head)
-      (take_all marks 64 words ∙ is))
-      (drop_of_length-le x {i = 74} (omega (arith, first-long)))
-      ∙ append-nil (head_of w ++ w.receiver.marks)
-      ∙ rw (eq-eqb (length ns) 74 long)
+pub write-both : (ns : List ℕ) (w : Wire) → length ns ≡ 74 → (h x m : List ℕ) → h ≡ head_of w → x ≡ h → m ≡ w.receiver.marks
+    → put_mid 10 (length (x ++ drop 10 ns) - 10) (x ++ drop 10 ns) m ≡ written_to ns w
+unfolding written_to numbers_of
+write-both ns w long h x m head first second =
+    put_rest (x ++ drop 10 ns) m
+    ∙ ap₂ ◌++◌ (take_at x (drop 10 ns) 10 (ap length (first ∙ head) ∙ head-long w) ∙ first ∙ head) second
+    ∙ rw (eq-eqb (length ns) 74 long)
 
 -- ---- numbers that name a state are its own
 
@@ -133,14 +145,17 @@ state-back Idle h = refl
 state-back (Grab k) h = ap Grab (omega arith)
 state-back (GrabChain k) h = ap GrabChain (omega arith)
 
-close_three : (c : Close) → get_or (close_numbers c) 0 0 ∷ get_or (close_numbers c) 1 0 ∷ get_or (close_numbers c) 2 0 ∷ [] ≡ close_numbers c
-close_three Not = refl
-close_three (Taken n t) = refl
+close_three : (c : Option Close) → get_or (close_numbers c) 0 0 ∷ get_or (close_numbers c) 1 0 ∷ get_or (close_numbers c) 2 0 ∷ [] ≡ close_numbers c
+close_three None = refl
+close_three (Some c) = refl
 
-close-back : (c : Close) → get_or (close_numbers c) 2 0 < 4_294_967_296
+abbrev closed : (count total : ℕ) → Option Close
+closed count total = Some (record { count = count; total = total })
+
+close-back : (c : Option Close) → get_or (close_numbers c) 2 0 < 4_294_967_296
     → close_in (get_or (close_numbers c) 0 0) (get_or (close_numbers c) 1 0) (get_or (close_numbers c) 2 0) ≡ c
-close-back Not h = refl
-close-back (Taken n t) h = ap (Taken n) (omega arith)
+close-back None h = refl
+close-back (Some c) h = ap (closed c.count) {x = c.total % 4_294_967_296} {y = c.total} (omega arith)
 
 pub own_back : (w : Wire) → Fits w → wire_in (numbers_of w) ≡ w
 unfolding wire_in numbers_of
@@ -158,7 +173,7 @@ own_named w f words =
     rw (eq-eqb (length (head_of w ++ w.receiver.marks)) 74 long, take_at (head_of w) w.receiver.marks 10 (head-long w), own_back w f) (same-itself (head_of w))
 
 -- what `write` leaves is read back as the states, from a list of that many
-pub own_read : (w : Wire) → Fits w → length w.receiver.marks ≡ 64 → read_of (numbers_of w) ≡ record { named = true; wire = w }
+pub own_read : (w : Wire) → Fits w → length w.receiver.marks ≡ 64 → read_of (numbers_of w) ≡ Some w
 unfolding read_of
 own_read w f words = rw (own_named w f words, own_back w f)
 

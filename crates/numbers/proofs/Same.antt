@@ -1,25 +1,15 @@
 -- Two lists of numbers held against each other, place by place. Assumes nothing.
-use mathlib.Core.Path.{◌≡◌, refl, sym, ap₂, ◌∙◌}
-use mathlib.Core.Logic.{◌≢◌}
-use mathlib.Core.Bool.{true, false, true≢false, ◌&&◌}
+use mathlib.Core.Path.{◌≡◌, refl, sym, ap, ap₂, ◌∙◌}
+use mathlib.Core.Bool.{true, false, true≢false}
 use mathlib.Core.List.{List, [], ◌∷◌}
-use Prim.Native.Nat.{ℕ, suc, ◌<◌}
+use Prim.Native.Nat.{ℕ}
 use lib.Dec.{eqb}
-use lib.ListN.{length, get_or, drop}
-use lib.Seq.{drop-cons}
-use borrow.Author.Tests.{eq-eqb, ne_eqb, eqb-true}
+use lib.ListN.{length, take}
+use borrow.Author.Tests.{eq-eqb, eqb-true}
+use Rattle.std.specs.List.{starts_with}
+use Rattle.std.specs.Cmp.Lexicographic.{same_text, other_text}
 use Rattle.dec.proofs.Cases.{by_bool}
 use Rattle.numbers.specs.Numbers.{same}
-
-module _ (s t : List ℕ) (k : ℕ) (hs : k < length s) (ht : k < length t) where
-  cons_both : same (drop k s) (drop k t) ≡ (eqb (get_or s k 0) (get_or t k 0) && same (drop (suc k) s) (drop (suc k) t))
-  cons_both = ap₂ same (drop-cons s k 0 hs) (drop-cons t k 0 ht)
-
-  pub same_differs : get_or s k 0 ≢ get_or t k 0 → same (drop k s) (drop k t) ≡ false
-  same_differs n = cons_both ∙ rw (ne_eqb (get_or s k 0) (get_or t k 0) n)
-
-  pub same_turn : get_or s k 0 ≡ get_or t k 0 → same (drop k s) (drop k t) ≡ same (drop (suc k) s) (drop (suc k) t)
-  same_turn e = cons_both ∙ rw (eq-eqb (get_or s k 0) (get_or t k 0) e)
 
 -- lists that are the same are equal, and a list is the same as itself
 pub same_equal : (s t : List ℕ) → same s t ≡ true → s ≡ t
@@ -34,3 +24,17 @@ same_equal (x ∷ s) (y ∷ t) e =
 pub same-itself : (s : List ℕ) → same s s ≡ true
 same-itself [] = refl
 same-itself (x ∷ s) = rw (eq-eqb x x refl) (same-itself s)
+
+-- what `starts_with` says of a head of ten
+module _ (ns h : List ℕ) (ten : length h ≡ 10) where
+  ahead : take (length h) ns ≡ take 10 ns
+  ahead = ap (λ (n : ℕ). take n ns) ten
+
+  pub starts_yes : starts_with eqb ns h ≡ true → same (take 10 ns) h ≡ true
+  starts_yes e = ap (same (take 10 ns)) (same_text h (take (length h) ns) (sym e) ∙ ahead) ∙ same-itself (take 10 ns)
+
+  pub starts_no : starts_with eqb ns h ≡ false → same (take 10 ns) h ≡ false
+  starts_no e =
+      by_bool (same (take 10 ns) h)
+      (λ q. absurd (other_text h (take (length h) ns) (sym e) (sym (same_equal (take 10 ns) h q) ∙ sym ahead)))
+      (λ q. q)

@@ -2,11 +2,11 @@
 use mathlib.Core.Path.{◌≡◌, sym, ◌∙◌}
 use mathlib.Core.List.{List}
 use Prim.Native.Nat.{ℕ}
+use Rattle.std.specs.Prelude.{Option}
 use Rattle.wire.specs.declared.Wire.{Wire}
 use Rattle.numbers.specs.Numbers.{read_of, written_to}
-use Rattle.numbers.specs.declared.Found.{Found}
 
-pub unique-read : (numbers : List ℕ) (r s : Found) → r ≡ read_of numbers → s ≡ read_of numbers → r ≡ s
+pub unique-read : (numbers : List ℕ) (r s : Option Wire) → r ≡ read_of numbers → s ≡ read_of numbers → r ≡ s
 unique-read numbers r s p q = p ∙ sym q
 
 pub unique-write : (w : Wire) (numbers x y : List ℕ) → x ≡ written_to numbers w → y ≡ written_to numbers w → x ≡ y

@@ -1,4 +1,5 @@
 -- States that a list of numbers can hold, and that a call on bytes leads from such states to such. Assumes nothing.
+use Rattle.std.specs.Prelude.{Option, Some, None}
 use mathlib.Core.Path.{◌≡◌, refl}
 use mathlib.Core.Bool.{Bool, true, false, ◌||◌}
 use mathlib.Core.List.{List}
@@ -19,7 +20,6 @@ use Rattle.batch.specs.State.{is_bad}
 use Rattle.batch.specs.Frame.{accept_next}
 use Rattle.batch.specs.declared.Receiver.{Receiver}
 use Rattle.batch.specs.declared.Close.{Close}
-use Rattle.batch.specs.declared.Close.TheVariants.{Not, Taken}
 use Rattle.batch.proofs.Good.{Good, good, total-fits}
 use Rattle.batch.proofs.Kept.{accept-batch, closed_total, accept-closed, accept-good}
 use Rattle.wire.specs.Loop.{received}
@@ -42,9 +42,9 @@ left_is Idle = refl
 left_is (Grab n) = refl
 left_is (GrabChain n) = refl
 
-closed_is : (c : Close) → closed_total c ≡ get_or (close_numbers c) 2 0
-closed_is Not = refl
-closed_is (Taken n t) = refl
+closed_is : (c : Option Close) → closed_total c ≡ get_or (close_numbers c) 2 0
+closed_is None = refl
+closed_is (Some c) = refl
 
 pub within-fits : (w : Wire) → Within w → Fits w
 within-fits w h = record {

@@ -1,12 +1,9 @@
 -- Both states of a receiving side as numbers, and back. Assumes nothing.
-use Rattle.std.specs.Prelude.{Bool, true, false, not, ◌&&◌, List, [], ◌∷◌, ◌++◌, ℕ, ◌%◌, eqb, length, get_or, take, drop, if◌then◌else◌}
+use Rattle.std.specs.Prelude.{Bool, true, false, not, ◌&&◌, Option, Some, None, List, [], ◌∷◌, ◌++◌, ℕ, ◌%◌, eqb, length, get_or, take, drop, if◌then◌else◌}
 use Rattle.dec.specs.declared.state.DecoderState.{DecoderState}
 use Rattle.dec.specs.declared.state.DecoderState.TheVariants.{Idle, Grab, GrabChain}
 use Rattle.batch.specs.declared.Close.{Close}
-use Rattle.batch.specs.declared.Close.TheVariants.{Not, Taken}
-use Rattle.wire.specs.Call.{start}
 use Rattle.wire.specs.declared.Wire.{Wire}
-use Rattle.numbers.specs.declared.Found.{Found}
 
 -- ---- A state's numbers: ten, then the words of the marks
 
@@ -22,9 +19,9 @@ state_numbers (Grab left) = 1 ∷ left ∷ []
 state_numbers (GrabChain left) = 2 ∷ left ∷ []
 
 -- Whether it is taken, its count and its total.
-abbrev pub close_numbers : Close → List ℕ
-close_numbers Not = 0 ∷ 0 ∷ 0 ∷ []
-close_numbers (Taken count total) = 1 ∷ count ∷ total ∷ []
+abbrev pub close_numbers : Option Close → List ℕ
+close_numbers None = 0 ∷ 0 ∷ 0 ∷ []
+close_numbers (Some close) = 1 ∷ close.count ∷ close.total ∷ []
 
 -- The ten: the decoder, then the receiver without its marks.
 unfoldable pub head_of : Wire → List ℕ
@@ -43,8 +40,8 @@ abbrev pub state_in : (kind left : ℕ) → DecoderState
 state_in kind left = if eqb kind 0 then Idle else if eqb kind 1 then Grab (left % 256) else GrabChain (left % 256)
 
 -- The receiver's close.
-abbrev pub close_in : (taken count total : ℕ) → Close
-close_in taken count total = if eqb taken 0 then Not else Taken count (total % 4_294_967_296)
+abbrev pub close_in : (taken count total : ℕ) → Option Close
+close_in taken count total = if eqb taken 0 then None else Some (record { count = count; total = total % 4_294_967_296 })
 
 -- Both states.
 unfoldable pub wire_in : List ℕ → Wire
@@ -72,18 +69,14 @@ names ns = eqb (length ns) 74 && same (take 10 ns) (head_of (wire_in ns))
 
 -- ---- The calls
 
--- The states that the numbers name, or that there are none, with a fresh pair.
-abbrev pub unnamed : Found
-unnamed = record { named = false; wire = start 0 0 }
-
--- What `read` answers.
-unfoldable pub read_of : List ℕ → Found
-read_of ns = if names ns then record { named = true; wire = wire_in ns } else unnamed
+-- The states that the numbers name, if they name any.
+unfoldable pub read_of : List ℕ → Option Wire
+read_of ns = if names ns then Some (wire_in ns) else None
 
 -- The states' numbers, in a list of as many; a list of another length stays.
 unfoldable pub written_to : List ℕ → Wire → List ℕ
 written_to ns w = if eqb (length ns) 74 then numbers_of w else ns
 
 -- What is read back from it: the very states, where the list has as many numbers as they.
-unfoldable pub read_back : (ns : List ℕ) → Wire → Found
-read_back ns w = if eqb (length ns) 74 then record { named = true; wire = w } else unnamed
+unfoldable pub read_back : (ns : List ℕ) → Wire → Option Wire
+read_back ns w = if eqb (length ns) 74 then Some w else None

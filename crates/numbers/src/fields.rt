@@ -1,31 +1,24 @@
 //! The ten numbers before the marks, and the fields read from them.
-ghost use Rattle.std.specs.Prelude.{◌≡◌, [], ◌∷◌, ◌<◌, length, drop};
-ghost use Rattle.numbers.specs.Numbers.{bit, state_numbers, close_numbers, head_of, state_in, close_in, wire_in};
+ghost use Rattle.std.specs.Prelude.{◌≡◌, [], ◌∷◌, ◌<◌, drop};
+ghost use Rattle.numbers.specs.Numbers.{state_numbers, close_numbers, head_of, state_in, close_in, wire_in};
 ghost use Rattle.numbers.specs.Helpers.{Fits};
 
-use crate::copy;
 use batch::{Close, Receiver};
 use dec::state::DecoderState;
 use dec::stream::CobsDecoder;
 use wire::Wire;
 
-#[derive(Clone, Copy)]
+#[derive(Clone, Copy, Debug, PartialEq, Eq)]
 struct StateNumbers {
     kind: u64,
     left: u64,
 }
 
-#[derive(Clone, Copy)]
+#[derive(Clone, Copy, Debug, PartialEq, Eq)]
 struct CloseNumbers {
     taken: u64,
     count: u64,
     total: u64,
-}
-
-fn bit(b: bool) -> u64
-    ensures { result ≡ bit b }
-{
-    if b { 1 } else { 0 }
 }
 
 fn state_numbers(state: DecoderState) -> StateNumbers
@@ -45,20 +38,20 @@ fn state_numbers(state: DecoderState) -> StateNumbers
     }
 }
 
-fn close_numbers(close: Close) -> CloseNumbers
+fn close_numbers(close: Option<Close>) -> CloseNumbers
     ensures numbers { result.taken ∷ result.count ∷ result.total ∷ [] ≡ close_numbers close }
     ensures fits { result.total < 4294967296 }
 {
     match close {
-        Close::Not => CloseNumbers {
+        None => CloseNumbers {
             taken: 0,
             count: 0,
             total: 0,
         },
-        Close::Taken { count, total } => CloseNumbers {
+        Some(close) => CloseNumbers {
             taken: 1,
-            count: count as u64,
-            total: total as u64,
+            count: close.count as u64,
+            total: close.total as u64,
         },
     }
 }
@@ -75,7 +68,7 @@ pub(crate) fn head_of(wire: Wire) -> [u64; 10]
     let close = close_numbers(taken);
     [
         decoder.place as u64,
-        bit(decoder.skip),
+        u64::from(decoder.skip),
         state.kind,
         state.left,
         receiver.total as u64,
@@ -87,49 +80,39 @@ pub(crate) fn head_of(wire: Wire) -> [u64; 10]
     ]
 }
 
-pub(crate) fn marks_of(wire: Wire) -> [u64; 64]
-    ensures { result ≡ wire.receiver.marks }
-{
-    let receiver = wire.receiver;
-    receiver.marks
-}
-
 fn state_in(kind: u64, left: u64) -> DecoderState
     ensures { result ≡ state_in kind left }
 {
-    if kind == 0 {
-        return DecoderState::Idle;
+    let left = (left % 256) as u8;
+    match kind {
+        0 => DecoderState::Idle,
+        1 => DecoderState::Grab(left),
+        _ => DecoderState::GrabChain(left),
     }
-    if kind == 1 {
-        return DecoderState::Grab((left % 256) as u8);
-    }
-    DecoderState::GrabChain((left % 256) as u8)
 }
 
-fn close_in(taken: u64, count: u64, total: u64) -> Close
+fn close_in(taken: u64, count: u64, total: u64) -> Option<Close>
     ensures { result ≡ close_in taken count total }
 {
     if taken == 0 {
-        return Close::Not;
+        return None;
     }
-    Close::Taken {
+    Some(Close {
         count: count as usize,
         total: (total % 4_294_967_296) as u32,
-    }
+    })
 }
 
 // The words of the marks.
-fn marks_in(numbers: &[u64]) -> [u64; 64]
-    requires { length numbers.now ≡ 74 }
+fn marks_in(numbers: &[u64; 74]) -> [u64; 64]
     ensures { result ≡ drop 10 numbers.now }
 {
-    let mut marks = [0u64; 64];
-    copy(&mut marks, 0, numbers, 10, 64);
+    let mut marks = [0; 64];
+    marks.copy_from_slice(&numbers[10..]);
     marks
 }
 
-pub(crate) fn wire_in(numbers: &[u64]) -> Wire
-    requires { length numbers.now ≡ 74 }
+pub(crate) fn wire_in(numbers: &[u64; 74]) -> Wire
     ensures { result ≡ wire_in numbers.now }
 {
     let decoder = CobsDecoder {

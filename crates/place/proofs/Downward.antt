@@ -6,16 +6,22 @@ use Prim.Native.Nat.{ℕ, ◌+◌, ◌-◌, ◌≤◌, ◌<◌}
 use native.Mathlib.Nat.{le_refl}
 use native.Mathlib.Omega.{arith}
 use lib.Dec.{eqb}
-use lib.ListN.{length, get_or, take, drop, length-drop, take-append-drop}
-use lib.Seq.{paste, take-paste, drop-paste, length-paste, take_all, length-take-le}
-use borrow.Author.Tests.{ne_eqb}
+use lib.ListN.{length, get_or, set, take, drop, length-drop, take-append-drop}
+use lib.Seq.{paste, paste-zero, take-paste, drop-paste, length-paste, take_all, length-take-le}
+use borrow.Author.Tests.{eqb-true, eqb-false, ne_eqb}
 use Rattle.cobs.specs.Code.{body, read_in, read, zero_after, over}
 use Rattle.cobs.specs.Answers.{Told, done, empty_frame, invalid_frame}
 use Rattle.cobs.specs.OneShot.{in_place_told, in_place_dest}
 use Rattle.cobs.proofs.Bodies.{length-body}
 use Rattle.cobs.proofs.Over.{over-fits}
-use Rattle.dec.proofs.Cases.{drop-next}
-use Rattle.place.proofs.Copies.{drop-later, part-take}
+use Rattle.dec.proofs.Cases.{by_bool, drop-next}
+use Rattle.std.specs.Prelude.{Err}
+use Rattle.place.proofs.Copies.{drop-later, part-take, set-paste}
+use Rattle.place.proofs.Walks.{no_first, First, Past, spans}
+use Rattle.place.specs.Calls.{refused}
+use Rattle.place.specs.Walk.{closed, first}
+use Rattle.place.specs.declared.place.BodyError.{BodyError}
+use Rattle.place.specs.declared.walk.Walk.{Walk}
 use Rattle.place.proofs.Groups.{body-take, body-positive, one_zero, Reached, reached-none, at-short, at_last, at_more}
 
 -- The told answer and the memory are those of decoding m₀ in place.
@@ -143,4 +149,65 @@ module _ (m₀ m : List ℕ) (from to : ℕ) (h : Head m₀ m from to) where
             behind = omega (arith, one_zero (get_or m from 0), h.behind);
             long = l₂ ∙ long₁ ∙ h.long;
             rest = rw et d₂;
+          }
+
+-- ---- along the walk
+
+-- The walk over m₀'s body stands at a group of it.
+pub record Walked (m₀ m : List ℕ) (w : Walk) : Type 0 where
+  pub end : w.end ≡ length (body m₀)
+  pub head : Head m₀ m w.from w.to
+
+pub walked_first : (m : List ℕ) (w : Walk) → First m w → Walked m m w
+walked_first m w f = record { end = f.end; head = rw (f.from, f.to) (head_first m f.some) }
+
+-- no walk
+pub walked_none : (m : List ℕ) (e : BodyError) → first m ≡ Err e → Placed m (refused e) m
+walked_none m e = no_first (λ (x : BodyError). Placed m (refused x) m) m e (place_empty m) (place_none m)
+
+-- a turn: the walk stands at w, whose code is c
+module _ (m₀ m : List ℕ) (w : Walk) (i : Walked m₀ m w) where
+  abbrev c : ℕ
+  c = get_or m w.from 0
+
+  pub walked_code : 0 < get_or m w.from 0
+  walked_code = code-positive m₀ m w.from w.to i.head
+
+  pub walked_bounds : (w.to ≤ w.from) × (w.from < w.end) × (w.end ≤ length m)
+  walked_bounds = (i.head.behind, omega (arith, i.end, i.head.reached.within), omega (arith, i.end, length-body m₀, i.head.long))
+
+  pub walked_short : w.end - w.from < get_or m w.from 0 → Placed m₀ (invalid_frame w.to 0) m
+  walked_short s = place_short m₀ m w.from w.to i.head (rw i.end at s)
+
+  -- and at v behind the group
+  module _ (v : Walk) (p : Past w (get_or m w.from 0) v) where
+    places : (w.from + 1 + (c - 1) ≡ v.from) × (w.from + 1 + (c - 1) ≤ w.end)
+    places = spans w c v p walked_bounds.1 walked_code
+
+    le : w.from + 1 + (c - 1) ≤ length (body m₀)
+    le = rw i.end at places.1
+
+    pub walked_copy : (w.to ≤ v.to) × (w.from + 1 + (v.to - w.to) ≤ length m) × (v.to < v.from) × (w.from < v.from)
+    walked_copy = (omega (arith, p.to), omega (arith, places, p.to, walked_bounds), omega (arith, places, p.to, walked_bounds), omega (arith, places))
+
+    module _ (m₁ : List ℕ) (e₁ : m₁ ≡ paste m w.to (drop (w.from + 1) m) (v.to - w.to)) where
+      pasted : m₁ ≡ paste m w.to (drop (w.from + 1) m) (c - 1)
+      pasted =
+          let n : v.to - w.to ≡ c - 1 = omega (arith, p.to) in
+          e₁ ∙ ap (paste m w.to (drop (w.from + 1) m)) n
+
+      pub walked_last : v.from ≡ v.end → Placed m₀ (done v.to v.end) m₁
+      walked_last l = rw (p.to, p.end ∙ i.end) (place-last m₀ m w.from w.to i.head (c - 1) refl le m₁ pasted (places.0 ∙ l ∙ p.end ∙ i.end))
+
+      pub walked_more : (m₂ : List ℕ) → (c ≡ 255 → m₂ ≡ m₁) → ((c ≡ 255 → ⊥) → m₂ ≡ set m₁ v.to 0) → (v.from ≡ v.end → ⊥) → Walked m₀ m₂ (closed v c)
+      walked_more m₂ full other l =
+          let b : v.to < length m₁ = omega (arith, long₁ m₀ m w.from w.to i.head (c - 1) refl le m₁ pasted, places, p.to, walked_bounds) in
+          let closing : m₂ ≡ paste m₁ v.to (zero_after c) (length (zero_after c)) =
+          by_bool (eqb c 255) (λ q. rw q (full (eqb-true c 255 q) ∙ paste-zero m₁ v.to []))
+          (λ q. rw q (other (eqb-false c 255 q) ∙ set-paste m₁ v.to 0 b)) in
+          record {
+            end = p.end ∙ i.end;
+            head =
+                rw (sym places.0)
+                (place-more m₀ m w.from w.to i.head (c - 1) refl le m₁ pasted m₂ (rw p.to at closing) (omega (arith, l, places, p.end, i.end)) (v.to + length (zero_after c)) (rw p.to));
           }

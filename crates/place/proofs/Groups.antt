@@ -1,62 +1,51 @@
 -- A body group by group: what is read so far, and what a short group, a last one and one before more come to. Assumes nothing.
+use Rattle.std.specs.Prelude.{Option, Some, None}
+use Rattle.std.specs.Option.{unwrap_or}
+use Rattle.std.specs.List.{position_or_len}
+use Rattle.std.proofs.lemmas.List.Recursion.{is_position_or_len}
 use mathlib.Core.Path.{◌≡◌, refl, sym, ap, ◌∙◌}
-use mathlib.Core.Bool.{true, false}
+use mathlib.Core.Bool.{true, false, cond}
 use mathlib.Core.List.{List, [], ◌∷◌, ◌++◌, append_assoc, append-nil}
 use Prim.Native.Nat.{ℕ, zero, suc, pred, ◌+◌, ◌-◌, ◌≤◌, ◌<◌, zero-le, suc-le-suc}
 use native.Mathlib.Nat.{not-suc-le-zero, le_of_suc-le-suc, le_refl}
 use native.Mathlib.Omega.{arith}
 use lib.Dec.{eqb, ltb}
 use lib.Bits.{bit_xor, xor_self, xor_zero_l, xor_zero_r}
-use lib.ListN.{length, get_or, take, drop, length-drop, take-append-drop, drop_of_length-le}
+use lib.ListN.{length, get_or, take, drop, length-drop, take-append-drop}
 use lib.Seq.{drop-drop, length-take-le, take_all}
-use borrow.Author.Tests.{ltb-true, ltb-false}
+use borrow.Author.Tests.{eqb-true, eqb-false, ltb-false}
 use Rattle.cobs.specs.Code.{body, Reading, cut, ended, onto, zero_after, read, masked}
 use Rattle.cobs.proofs.Reading.{read_short, read-last, read_more}
-use Rattle.cobs.proofs.Sentinel.{xor_twice}
-use Rattle.place.specs.Helpers.{group_of}
-use Rattle.place.specs.declared.place.Group.TheVariants.{Whole, Short}
+use Rattle.cobs.proofs.Bodies.{length-body}
+use Rattle.cobs.proofs.Sentinel.{xor_twice, length-masked}
 use Rattle.dec.proofs.Cases.{by_bool, drop-next}
 
 -- ---- the search for the body's end
 
-body-first : (b : ℕ) (s : List ℕ) → (b ≡ 0 → ⊥) → body (b ∷ s) ≡ b ∷ body s
-body-first zero s n = absurd (n refl)
-body-first (suc b) s n = refl
+-- the body ends where the sentinel first stands
+body-first : (sentinel b : ℕ) (s : List ℕ) → length (body (masked sentinel (b ∷ s))) ≡ cond (eqb b sentinel) 0 (1 + length (body (masked sentinel s)))
+body-first sentinel b s =
+    by_bool (eqb b sentinel) (λ q. let e : b ≡ sentinel = eqb-true b sentinel q in rw (q, e, xor_self sentinel))
+    (λ q. rw q (other (bit_xor b sentinel) (masked sentinel s) (λ e. eqb-false b sentinel q (sym (xor_twice b sentinel) ∙ ap (λ (y : ℕ). bit_xor y sentinel) e ∙ xor_zero_l sentinel))))
+  where
+    other : (x : ℕ) (t : List ℕ) → (x ≡ 0 → ⊥) → length (body (x ∷ t)) ≡ 1 + length (body t)
+    other zero t n = absurd (n refl)
+    other (suc x) t n = omega arith
 
--- Of the body in a buffer, masked, i bytes are passed.
-abbrev pub Passed : (sentinel : ℕ) (buf : List ℕ) (i : ℕ) → Type 0
-Passed sentinel buf i = i + length (body (masked sentinel (drop i buf))) ≡ length (body (masked sentinel buf))
+-- so what `position` finds, or the length, is how long it is
+pub end-found : (sentinel : ℕ) (buf : List ℕ) (o : Option ℕ)
+    → o ≡ cond (ltb (position_or_len (λ b. eqb b sentinel) buf) (length buf)) (Some (position_or_len (λ b. eqb b sentinel) buf)) None
+    → unwrap_or o (length buf) ≡ length (body (masked sentinel buf))
+end-found sentinel buf o e =
+    let p : ℕ = position_or_len (λ b. eqb b sentinel) buf in
+    let q : length (body (masked sentinel buf)) ≡ p = is_position_or_len (λ s. length (body (masked sentinel s))) (λ b. eqb b sentinel) refl (body-first sentinel) buf in
+    by_bool (ltb p (length buf)) (λ t. rw (e, t) (sym q))
+    (λ t. rw (e, t) (omega (arith, ltb-false p (length buf) t, q, length-body (masked sentinel buf), length-masked sentinel buf)))
 
-module _ (sentinel : ℕ) (buf : List ℕ) (i : ℕ) (p : Passed sentinel buf i) where
-  module _ (h : i < length buf) where
-    rest : length (body (masked sentinel (drop i buf))) ≡ length (body (bit_xor (get_or buf i 0) sentinel ∷ masked sentinel (drop (i + 1) buf)))
-    rest = ap (λ (s : List ℕ). length (body (masked sentinel s))) (drop-next buf i h)
-
-    pub end-here : get_or buf i 0 ≡ sentinel → i ≡ length (body (masked sentinel buf))
-    end-here e =
-        let z : bit_xor (get_or buf i 0) sentinel ≡ 0 = rw (e, xor_self sentinel) in
-        let q : length (body (masked sentinel (drop i buf))) ≡ 0 = rest ∙ rw z in
-        omega (arith, q)
-
-    pub end_later : (get_or buf i 0 ≡ sentinel → ⊥) → Passed sentinel buf (i + 1)
-    end_later n =
-        let x : ℕ = get_or buf i 0 in
-        let s : List ℕ = masked sentinel (drop (i + 1) buf) in
-        let m : bit_xor (get_or buf i 0) sentinel ≡ 0 → ⊥ = λ e. n (sym (xor_twice (get_or buf i 0) sentinel) ∙ ap (λ (y : ℕ). bit_xor y sentinel) e ∙ xor_zero_l sentinel) in
-        let q : length (body (masked sentinel (drop i buf))) ≡ suc (length (body (masked sentinel (drop (i + 1) buf)))) = rest ∙ ap length (body-first (bit_xor x sentinel) s m) in
-        omega (arith, q)
-
-  pub end_nowhere : length buf ≤ i → i ≡ length (body (masked sentinel buf))
-  end_nowhere h =
-      let q : length (body (masked sentinel (drop i buf))) ≡ 0 = rw (drop_of_length-le buf h) in
-      omega (arith, q)
-
-masked_zero : (s : List ℕ) → masked 0 s ≡ s
+-- zeros are looked for as they stand
+pub masked_zero : (s : List ℕ) → masked 0 s ≡ s
 masked_zero [] = refl
 masked_zero (b ∷ s) = rw (xor_zero_r b, masked_zero s)
-
-pub end_zero : (s : List ℕ) (n : ℕ) → n ≡ length (body (masked 0 s)) → n ≡ length (body s)
-end_zero s n e = e ∙ ap (λ (t : List ℕ). length (body t)) (masked_zero s)
 
 -- the body stands at the front
 pub body-take : (s : List ℕ) → take (length (body s)) s ≡ body s
@@ -69,18 +58,6 @@ body-positive [] i h = absurd (not-suc-le-zero h)
 body-positive (zero ∷ s) i h = absurd (not-suc-le-zero h)
 body-positive (suc b ∷ s) zero h = suc-le-suc zero-le
 body-positive (suc b ∷ s) (suc i) h = body-positive s i (le_of_suc-le-suc h)
-
--- ---- what a group's answer says
-
-pub says-whole : (c left n : ℕ) → group_of c left ≡ Whole n → (c ≤ left) × (n ≡ c - 1)
-says-whole c left n e =
-    by_bool (ltb left c) (λ q. let w : Short ≡ Whole n = rw q at e in let z : ◌≡◌ {A = ℕ} 0 1 = cc in absurd (omega arith))
-    (λ q. let w : Whole (c - 1) ≡ Whole n = rw q at e in (ltb-false left c q, cc))
-
-pub says-short : (c left : ℕ) → group_of c left ≡ Short → left < c
-says-short c left e =
-    by_bool (ltb left c) (ltb-true left c)
-    (λ q. let w : Whole (c - 1) ≡ Short = rw q at e in let z : ◌≡◌ {A = ℕ} 0 1 = cc in absurd (omega arith))
 
 -- ---- group by group
 

@@ -1,4 +1,5 @@
 -- Decoding with a sentinel into another buffer: the source is measured by the in-place rule, then streamed. Assumes nothing.
+use Rattle.std.specs.Prelude.{Err}
 use mathlib.Core.Path.{◌≡◌, refl, sym, ap, ◌∙◌}
 use mathlib.Core.Bool.{true, false, false≢true}
 use mathlib.Core.List.{List, [], ◌∷◌, ◌++◌, append-nil}
@@ -11,7 +12,7 @@ use lib.ListN.{length, get_or, take, drop, length-append, length-drop}
 use lib.Seq.{length-take-le, take-length, drop-length}
 use borrow.Author.Tests.{lt-ltb, le-ltb, ne_eqb}
 use Rattle.cobs.specs.Code.{body, read, zero_after, over, masked}
-use Rattle.cobs.specs.Answers.{Told, is_done, done, empty_frame, invalid_frame, target_buf_too_small}
+use Rattle.cobs.specs.Answers.{Told, is_done, done, invalid_frame, target_buf_too_small}
 use Rattle.cobs.specs.OneShot.{leading, meant, decoded, decode_dest, in_place_told, size_alone, with_sentinel_told, with_sentinel_dest}
 use Rattle.cobs.proofs.Reading.{by_codes, read_short, read-last, read_more, read_empty}
 use Rattle.cobs.proofs.Bodies.{length-body}
@@ -21,6 +22,11 @@ use Rattle.blocks.specs.Blocks.{masked_front}
 use Rattle.dec.specs.Stream.{new, push_dest}
 use Rattle.dec.proofs.Cases.{by_bool}
 use Rattle.place.proofs.Groups.{body-positive, one_zero, Reached, reached-none, at-short, at_last, at_more}
+use Rattle.place.specs.Calls.{refused}
+use Rattle.place.specs.Walk.{closed, first}
+use Rattle.place.specs.declared.place.BodyError.{BodyError}
+use Rattle.place.specs.declared.walk.Walk.{Walk}
+use Rattle.place.proofs.Walks.{no_first, First, Past, spans}
 use Rattle.place.proofs.Downward.{place_empty, place_none}
 use Rattle.dec.proofs.Sources.{push-memory}
 
@@ -104,19 +110,62 @@ module _ (p : List ℕ) (from to : ℕ) (m : Measured p from to) where
             behind = omega (arith, m.behind, ez, one_zero c);
           }
 
--- no body to measure
-module _ (s : ℕ) (src : List ℕ) where
-  pub measured_empty : length src ≡ 0 → empty_frame ≡ size_alone (in_place_told (masked s src))
-  measured_empty e = ap size_alone (place_empty (masked s src) (length-masked s src ∙ e)).0
+-- ---- along the walk
 
-  pub measured-nothing : (length src ≡ 0 → ⊥) → length (body (masked s src)) ≡ 0 → invalid_frame 0 0 ≡ size_alone (in_place_told (masked s src))
-  measured-nothing n e = ap size_alone (place_none (masked s src) (λ q. n (sym (length-masked s src) ∙ q)) e).0
+-- The walk over p's body stands at a group of it.
+pub record Sized (p : List ℕ) (w : Walk) : Type 0 where
+  pub end : w.end ≡ length (body p)
+  pub head : Measured p w.from w.to
 
-  -- a code of the masked source
-  pub masked-code : (from to : ℕ) → Measured (masked s src) from to → (from < length src) × (bit_xor (get_or src from 0) s ≡ get_or (masked s src) from 0)
-  masked-code from to m =
-      let h : from < length src = omega (arith, m.reached.within, length-body (masked s src), length-masked s src) in
-      (h, sym (get_or-masked s src from h))
+pub sized_first : (p : List ℕ) (w : Walk) → First p w → Sized p w
+sized_first p w f = record { end = f.end; head = rw (f.from, f.to) (measured-none p f.some) }
+
+-- no walk
+pub sized_none : (p : List ℕ) (e : BodyError) → first p ≡ Err e → refused e ≡ size_alone (in_place_told p)
+sized_none p e =
+    no_first (λ (x : BodyError). refused x ≡ size_alone (in_place_told p)) p e (λ q. ap size_alone (place_empty p q).0)
+    (λ n q. ap size_alone (place_none p n q).0)
+
+-- a turn: the walk stands at w, whose code is c
+module _ (p : List ℕ) (w : Walk) (i : Sized p w) (c : ℕ) (ec : c ≡ get_or p w.from 0) where
+  pub sized_code : 0 < c
+  sized_code = measured-code p w.from w.to i.head c ec
+
+  within : w.from < w.end
+  within = omega (arith, i.end, i.head.reached.within)
+
+  pub sized_short : w.end - w.from < c → invalid_frame w.to 0 ≡ size_alone (in_place_told p)
+  sized_short s = measured-short p w.from w.to i.head c ec (rw i.end at s)
+
+  -- and at v behind the group
+  module _ (v : Walk) (q : Past w c v) where
+    places : (w.from + 1 + (c - 1) ≡ v.from) × (w.from + 1 + (c - 1) ≤ w.end)
+    places = spans w c v q within sized_code
+
+    le : w.from + 1 + (c - 1) ≤ length (body p)
+    le = rw i.end at places.1
+
+    pub sized_bounds : (v.to < v.from) × (w.from < v.from) × (v.end ≡ w.end)
+    sized_bounds = (omega (arith, places, q.to, i.head.behind), omega (arith, places), q.end)
+
+    pub sized_last : v.from ≡ v.end → done v.to 0 ≡ size_alone (in_place_told p)
+    sized_last l = rw q.to (measured-last p w.from w.to i.head c ec (c - 1) refl le (places.0 ∙ l ∙ q.end ∙ i.end))
+
+    pub sized_more : (v.from ≡ v.end → ⊥) → Sized p (closed v c)
+    sized_more l =
+        record {
+          end = q.end ∙ i.end;
+          head =
+              rw (sym places.0, q.to)
+              (measured-more p w.from w.to i.head c ec (c - 1) refl le (omega (arith, l, places, q.end, i.end)) (length (zero_after c)) refl);
+        }
+
+-- a code of the masked source
+pub masked-code : (s : ℕ) (src : List ℕ) (w : Walk) → Sized (masked s src) w
+    → (w.from < length src) × (w.to ≤ w.from) × (w.from < w.end) × (bit_xor (get_or src w.from 0) s ≡ get_or (masked s src) w.from 0)
+masked-code s src w i =
+    let h : w.from < length src = omega (arith, i.head.reached.within, length-body (masked s src), length-masked s src) in
+    (h, i.head.behind, omega (arith, i.end, i.head.reached.within), sym (get_or-masked s src w.from h))
 
 -- ---- streaming
 

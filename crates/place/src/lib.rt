@@ -3,3 +3,4 @@
 
 pub mod place;
 pub mod sentinel;
+mod walk;

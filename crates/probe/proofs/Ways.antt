@@ -1,7 +1,8 @@
 -- The ways through the calls, over plain values. Assumes nothing.
+use Rattle.std.specs.Prelude.{Ok, Err}
 use mathlib.Core.Path.{◌≡◌, refl, sym, ap, ◌∙◌}
 use mathlib.Core.Bool.{Bool, true, false}
-use mathlib.Core.List.{List, [], ◌∷◌}
+use mathlib.Core.List.{List}
 use native.Mathlib.Omega.{arith}
 use Prim.Native.Nat.{ℕ}
 use lib.Dec.{eqb}
@@ -9,27 +10,17 @@ use lib.ListN.{length}
 use borrow.Author.Tests.{eq-eqb, ne_eqb}
 use Rattle.cobs.specs.Code.{over}
 use Rattle.cobs.specs.Answers.{tell}
-use Rattle.enc.specs.Stream.{fresh, started, push_told, push_next, push_dest}
+use Rattle.cobs.specs.declared.refusals.DestBufTooSmall.{DestBufTooSmall}
+use Rattle.enc.specs.Stream.{started, push_told, push_next, push_dest}
 use Rattle.enc.specs.declared.stream.Encoder.{Encoder}
-use Rattle.enc.specs.declared.stream.Started.{Started}
-use Rattle.enc.specs.declared.stream.Started.TheVariants as start
+use Rattle.enc.proofs.Calls.{ready_fresh}
 use Rattle.dec.specs.State.{stepped, told_given, given_told}
 use Rattle.dec.specs.declared.state.DecoderState.{DecoderState}
 use Rattle.dec.specs.declared.state.Stepped.{Stepped}
 use Rattle.dec.specs.declared.stream.CobsDecoder.{CobsDecoder}
 use Rattle.dec.specs.declared.stream.Pushed.{Pushed}
 use Rattle.dec.specs.Stream.{Outcome, told, outcome, push_outcome, push_dest as decode_dest}
-use Rattle.probe.specs.Numbers.{flag, state_from, tag, to_come, encoder_of, encoder_numbers, decoder_of, decoder_numbers, start_told, start_numbers, push_numbers, decoded, decode_numbers}
-
--- ---- a state's numbers
-
-pub encoder-put : (e : Encoder) (f : ℕ) (l k : List ℕ) → f ≡ flag e.full → k ≡ over (e.state.place ∷ e.state.code ∷ f ∷ e.count ∷ []) l
-    → k ≡ over (encoder_numbers e) l
-encoder-put e f l k p q = q ∙ ap (λ (x : ℕ). over (e.state.place ∷ e.state.code ∷ x ∷ e.count ∷ []) l) p
-
-pub decoder-put : (d : CobsDecoder) (f t u : ℕ) (l k : List ℕ) → f ≡ flag d.skip → t ≡ tag d.state → u ≡ to_come d.state
-    → k ≡ over (d.place ∷ f ∷ t ∷ u ∷ []) l → k ≡ over (decoder_numbers d) l
-decoder-put d f t u l k p q r s = simp (s, p, q, r)
+use Rattle.probe.specs.Numbers.{state_from, tag, to_come, encoder_of, encoder_numbers, decoder_of, decoder_numbers, start_told, start_numbers, push_numbers, decoded, decode_numbers}
 
 -- ---- the encoder's start
 
@@ -38,23 +29,21 @@ module _ (numbers : List ℕ) (room : ℕ) where
   unfolding start_told start_numbers
   start_nowhere h = (simp (ne_eqb _ _ h), simp (ne_eqb _ _ h))
 
-  pub start-refused : (s : Started) → length numbers ≡ 4 → s ≡ started room → s ≡ start.DestBufTooSmall
+  pub start-refused : (r : DestBufTooSmall) → length numbers ≡ 4 → Err r ≡ started room
       → (tell 4 0 0 ≡ start_told numbers room) × (numbers ≡ start_numbers numbers room)
   unfolding start_told start_numbers started
-  start-refused s h p q = go (eqb room 0) refl
+  start-refused r h p = go (eqb room 0) refl
     where
       go : (b : Bool) → eqb room 0 ≡ b → (tell 4 0 0 ≡ start_told numbers room) × (numbers ≡ start_numbers numbers room)
       go true e = (simp (eq-eqb _ _ h, e), simp (eq-eqb _ _ h, e))
-      go false e = let z : ◌≡◌ {A = ℕ} 0 1 = cc in absurd (omega arith)
+      go false e = let q = rw e at p in let z : ◌≡◌ {A = ℕ} 0 1 = cc in absurd (omega arith)
 
-  pub start_ready : (s : Started) (e : Encoder) (k : List ℕ) → length numbers ≡ 4 → s ≡ started room → s ≡ start.Ready e → k ≡ over (encoder_numbers e) numbers
+  pub start_ready : (e : Encoder) (k : List ℕ) → length numbers ≡ 4 → Ok e ≡ started room → k ≡ over (encoder_numbers e) numbers
       → (tell 0 0 0 ≡ start_told numbers room) × (k ≡ start_numbers numbers room)
-  unfolding start_told start_numbers started
-  start_ready s e k h p q r = go (eqb room 0) refl
-    where
-      go : (b : Bool) → eqb room 0 ≡ b → (tell 0 0 0 ≡ start_told numbers room) × (k ≡ start_numbers numbers room)
-      go true t = let z : ◌≡◌ {A = ℕ} 0 1 = cc in absurd (omega arith)
-      go false t = let f : e ≡ fresh = cc in (simp (eq-eqb _ _ h, t), simp (eq-eqb _ _ h, t) (r ∙ ap (λ (x : Encoder). over (encoder_numbers x) numbers) f))
+  unfolding start_told start_numbers
+  start_ready e k h p r =
+      let q = ready_fresh room e (sym p) in
+      (simp (eq-eqb _ _ h, ne_eqb room 0 (omega (arith, q.0))), simp (eq-eqb _ _ h, ne_eqb room 0 (omega (arith, q.0))) (r ∙ ap (λ (x : Encoder). over (encoder_numbers x) numbers) q.1))
 
 -- ---- the pushes
 

@@ -13,7 +13,7 @@ ghost use Rattle.dec.specs.State.{stepped, given_told};
 ghost use Rattle.dec.specs.Stream.{push_dest as decode_dest};
 ghost use Rattle.probe.specs.Numbers.{encoder_of, decoder_of, state_from, tag, to_come, start_told, start_numbers, push_numbers, decoded, decode_numbers};
 
-use enc::stream::{Encoder, Started};
+use enc::stream::Encoder;
 use numbers::{decoder_of, encoder_of, put_decoder, put_encoder, state_from, tag, to_come};
 use told::{accepted, answered, finished, gave, placed};
 
@@ -26,7 +26,7 @@ pub extern "C" fn probe_encoder_start(state: &mut [u64], dest: &[u8]) -> u8
     if state.len() != 4 {
         return 6;
     }
-    let Started::Ready(encoder) = Encoder::start(dest) else {
+    let Ok(encoder) = Encoder::start(dest) else {
         return 4;
     };
     put_encoder(encoder, state);

@@ -1,7 +1,7 @@
 //! States from four numbers in an array, and back into it.
-ghost use Rattle.std.specs.Prelude.{◌≡◌, [], ◌∷◌, set};
+ghost use Rattle.std.specs.Prelude.{◌≡◌};
 ghost use Rattle.cobs.specs.Code.{over};
-ghost use Rattle.probe.specs.Numbers.{flag, no_encoder, encoder_from, encoder_of, encoder_numbers, no_decoder, state_from, decoder_from, decoder_of, tag, to_come, decoder_numbers};
+ghost use Rattle.probe.specs.Numbers.{no_encoder, encoder_from, encoder_of, encoder_numbers, no_decoder, state_from, decoder_from, decoder_of, tag, to_come, decoder_numbers};
 
 use dec::state::DecoderState;
 use dec::stream::CobsDecoder;
@@ -21,16 +21,16 @@ fn no_encoder() -> Encoder
 fn encoder_from(place: u64, code: u64, full: u64, count: u64) -> Encoder
     ensures { result ≡ encoder_from place code full count }
 {
-    if 255 < code {
+    let Ok(code) = u8::try_from(code) else {
         return no_encoder();
-    }
+    };
     if 1 < full {
         return no_encoder();
     }
     Encoder {
         state: EncoderState {
             place: place as usize,
-            code: code as u8,
+            code,
         },
         full: full == 1,
         count: count as usize,
@@ -40,10 +40,10 @@ fn encoder_from(place: u64, code: u64, full: u64, count: u64) -> Encoder
 pub(crate) fn encoder_of(numbers: &[u64]) -> Encoder
     ensures { result ≡ encoder_of numbers.now }
 {
-    if numbers.len() != 4 {
-        return no_encoder();
+    match *numbers {
+        [place, code, full, count] => encoder_from(place, code, full, count),
+        _ => no_encoder(),
     }
-    encoder_from(numbers[0], numbers[1], numbers[2], numbers[3])
 }
 
 fn no_decoder() -> CobsDecoder
@@ -59,13 +59,11 @@ fn no_decoder() -> CobsDecoder
 pub(crate) fn state_from(tag: u64, left: u8) -> DecoderState
     ensures { result ≡ state_from tag left }
 {
-    if tag == 0 {
-        return DecoderState::Idle;
+    match tag {
+        0 => DecoderState::Idle,
+        1 => DecoderState::Grab(left),
+        _ => DecoderState::GrabChain(left),
     }
-    if tag == 1 {
-        return DecoderState::Grab(left);
-    }
-    DecoderState::GrabChain(left)
 }
 
 fn decoder_from(place: u64, skip: u64, tag: u64, left: u64) -> CobsDecoder
@@ -77,29 +75,23 @@ fn decoder_from(place: u64, skip: u64, tag: u64, left: u64) -> CobsDecoder
     if 2 < tag {
         return no_decoder();
     }
-    if 255 < left {
+    let Ok(left) = u8::try_from(left) else {
         return no_decoder();
-    }
+    };
     CobsDecoder {
         place: place as usize,
         skip: skip == 1,
-        state: state_from(tag, left as u8),
+        state: state_from(tag, left),
     }
 }
 
 pub(crate) fn decoder_of(numbers: &[u64]) -> CobsDecoder
     ensures { result ≡ decoder_of numbers.now }
 {
-    if numbers.len() != 4 {
-        return no_decoder();
+    match *numbers {
+        [place, skip, tag, left] => decoder_from(place, skip, tag, left),
+        _ => no_decoder(),
     }
-    decoder_from(numbers[0], numbers[1], numbers[2], numbers[3])
-}
-
-fn flag(b: bool) -> u64
-    ensures { result ≡ flag b }
-{
-    if b { 1 } else { 0 }
 }
 
 pub(crate) fn tag(state: DecoderState) -> u64
@@ -122,22 +114,12 @@ pub(crate) fn to_come(state: DecoderState) -> u8
     }
 }
 
-// Stores a number, where there is a place for it.
-fn store(numbers: &mut [u64], at: usize, number: u64)
-    ensures { numbers.new ≡ set numbers.old at number }
+// The values over the front of the list, as far as it goes.
+fn put(numbers: &mut [u64], values: [u64; 4])
+    ensures { numbers.new ≡ over values numbers.old }
 {
-    if at < numbers.len() {
-        numbers[at] = number;
-    }
-}
-
-fn put(numbers: &mut [u64], a: u64, b: u64, c: u64, d: u64)
-    ensures { numbers.new ≡ over (a ∷ b ∷ c ∷ d ∷ []) numbers.old }
-{
-    store(numbers, 0, a);
-    store(numbers, 1, b);
-    store(numbers, 2, c);
-    store(numbers, 3, d);
+    let n = numbers.len().min(values.len());
+    numbers[..n].copy_from_slice(&values[..n]);
 }
 
 pub(crate) fn put_encoder(e: Encoder, numbers: &mut [u64])
@@ -146,10 +128,12 @@ pub(crate) fn put_encoder(e: Encoder, numbers: &mut [u64])
     let state = e.state;
     put(
         numbers,
-        state.place as u64,
-        state.code as u64,
-        flag(e.full),
-        e.count as u64,
+        [
+            state.place as u64,
+            u64::from(state.code),
+            u64::from(e.full),
+            e.count as u64,
+        ],
     );
 }
 
@@ -159,9 +143,11 @@ pub(crate) fn put_decoder(d: CobsDecoder, numbers: &mut [u64])
     let state = d.state;
     put(
         numbers,
-        d.place as u64,
-        flag(d.skip),
-        tag(state),
-        to_come(state) as u64,
+        [
+            d.place as u64,
+            u64::from(d.skip),
+            tag(state),
+            u64::from(to_come(state)),
+        ],
     );
 }

@@ -1,8 +1,7 @@
 -- A frame written, one law for each way through `write_frame`. Assumes nothing.
-use Rattle.std.proofs.Common.{◌≡◌, ℕ, ◌+◌, ◌-◌, ◌/◌, ◌<◌, ◌≤◌, Bool, true, false, List, [], ◌∷◌, ◌++◌, length, take, drop, set, sym, refl, ap, ◌∙◌, ap₂, true≢false, append_assoc, arith, length-append, take-append-drop, length-take-le, ltb-false, ltb-true, le-ltb, lt-ltb, if◌then◌else◌}
+use Rattle.std.proofs.Common.{Result, Ok, Err, eqb, eqb-true, ◌≡◌, ℕ, ◌+◌, ◌-◌, ◌/◌, ◌<◌, ◌≤◌, Bool, true, false, List, [], ◌∷◌, ◌++◌, length, take, drop, set, sym, refl, ap, ◌∙◌, ap₂, true≢false, append_assoc, arith, length-append, take-append-drop, length-take-le, ltb-false, ltb-true, le-ltb, lt-ltb, if◌then◌else◌}
 use lib.Seq.{drop-append-le}
-use types.Run.{OneOf, miss}
-use denote.Enum.Declared.{tag_of}
+use borrow.Author.Tests.{eqb-false}
 use Rattle.cobs.specs.Words.{◌exceeds◌}
 use Rattle.cobs.specs.Code.{encode, over}
 use Rattle.cobs.specs.Answers.{Told, done, dest_buf_too_small, bad_length, longest, is_done}
@@ -10,21 +9,32 @@ use Rattle.cobs.specs.OneShot.{plain, finished, encode_told, encode_dest}
 use Rattle.cobs.proofs.Told.{unlike}
 use Rattle.cobs.proofs.Over.{over-fits, over_snoc}
 use Rattle.enc.specs.OneShot.{told}
-use Rattle.enc.specs.declared.oneshot.Encoded.{Encoded}
-use Rattle.enc.specs.declared.oneshot.Encoded.TheVariants as encoded
-use Rattle.enc.specs.contracts.oneshot.Encoded.{the_type}
-use Rattle.record.specs.Frame.{is_bad_length, records_told, message_told, framed, frame_told, frame_dest}
+use Rattle.enc.specs.declared.oneshot.EncodeError.{EncodeError}
+use Rattle.enc.specs.declared.oneshot.EncodeError.TheVariants as encoding
+use Rattle.record.specs.Frame.{is_bad_length, records_told, message_told, framed, told_refusal, frame_told, frame_dest}
+use Rattle.record.specs.declared.frame.FrameError.{FrameError}
+use Rattle.record.specs.declared.frame.FrameError.TheVariants as refusal
+use Rattle.record.proofs.Frames.{Whole, whole}
 
 -- ---- the message
 
-module _ (m : List ℕ) (b : Bool) (eb : b ≡ is_bad_length 16 240 (length m)) where
-  pub told-length : b ≡ true → message_told 16 240 m ≡ bad_length
-  unfolding message_told
-  told-length h = simp (← eb, h)
+pub told_records : (m : List ℕ) → is_bad_length 16 240 (length m) ≡ false → {t : Told} → t ≡ records_told 16 (length m / 16) 0 m → t ≡ message_told 16 240 m
+unfolding message_told
+told_records m h e = simp h e
 
-  pub told_records : b ≡ false → {t : Told} → t ≡ records_told 16 (length m / 16) 0 m → message_told 16 240 m ≡ t
-  unfolding message_told
-  told_records h e = simp (← eb, h) (sym e)
+-- a message without a refusal is whole
+pub whole_told : (m : List ℕ) → message_told 16 240 m ≡ done 0 0 → Whole (length m)
+unfolding message_told
+whole_told m e = go (is_bad_length 16 240 (length m)) refl e
+  where
+    go : (b : Bool) → is_bad_length 16 240 (length m) ≡ b → (if b then bad_length else records_told 16 (length m / 16) 0 m) ≡ done 0 0 → Whole (length m)
+    go true q e = absurd (unlike e (omega arith))
+    go false q e = whole (length m) q
+
+refused : (e : FrameError) → is_done (told_refusal e) ≡ false
+refused refusal.BadLength = refl
+refused (refusal.BadRecord k) = refl
+refused refusal.DestBufTooSmall = refl
 
 -- ---- the answer and the buffer
 
@@ -36,9 +46,9 @@ unfolding framed
 framed-length m = length-append (encode m) (0 ∷ [])
 
 module _ (m d : List ℕ) where
-  pub writes_refused : (t : Told) → message_told 16 240 m ≡ t → is_done t ≡ false → Writes m d t d
+  pub writes_refused : (e : FrameError) → told_refusal e ≡ message_told 16 240 m → Writes m d (told_refusal e) d
   unfolding frame_told frame_dest
-  writes_refused t e h = (rw (e, h), rw (e, h, h))
+  writes_refused e q = let h = refused e in (rw (← q, h), rw (← q, h, h))
 
   module _ (ok : message_told 16 240 m ≡ done 0 0) where
     pub writes_small : length d < length (encode m) + 1 → Writes m d dest_buf_too_small d
@@ -53,14 +63,22 @@ module _ (m d : List ℕ) where
         let s = le-ltb (length d) (length (framed m)) (omega (arith, framed-length m)) in
         (rw (ok, s, framed-length m), rw (ok, s))
 
+    pub writes_empty : {b : Bool} → b ≡ eqb (length d) 0 → b ≡ true → Writes m d dest_buf_too_small d
+    writes_empty e h = let none = eqb-true (length d) 0 (sym e ∙ h) in writes_small (omega arith)
+
+pub some : (d : List ℕ) {b : Bool} → b ≡ eqb (length d) 0 → b ≡ false → 0 < length d
+some d e h = let none = eqb-false (length d) 0 (sym e ∙ h) in omega arith
+
 -- ---- the encoding, into all but the last byte
 
-not_length : (e : Encoded) → OneOf (1 ∷ 2 ∷ []) (tag_of the_type e) → is_done (told e) ≡ false
-not_length (encoded.Length n) o = absurd (miss (1 ∷ 2 ∷ []) 0 tt o)
-not_length encoded.TooLong o = refl
-not_length encoded.DestBufTooSmall o = refl
+not_length : (x : EncodeError) → is_done (told (Err x)) ≡ false
+not_length encoding.TooLong = refl
+not_length encoding.DestBufTooSmall = refl
 
-module _ (m d : List ℕ) (short : length m ≤ 240) (some : 0 < length d) where
+module _ (m d : List ℕ) (ok : message_told 16 240 m ≡ done 0 0) (nonempty : 0 < length d) where
+  short : length m ≤ 240
+  short = (whole_told m ok).short
+
   abbrev part : List ℕ
   part = take (length d - 1) d
 
@@ -70,7 +88,7 @@ module _ (m d : List ℕ) (short : length m ≤ 240) (some : 0 < length d) where
   -- never TooLong
   told_is : encode_told plain m (length part) ≡ (if length (encode m) exceeds (length d - 1) then dest_buf_too_small else done (length (encode m)) 0)
   unfolding encode_told finished
-  told_is = rw (le-ltb longest (length m) (omega arith), part-long)
+  told_is = let s = short in rw (le-ltb longest (length m) (omega arith), part-long)
 
   fits : (n : ℕ) → done n 0 ≡ encode_told plain m (length part) → (n ≡ length (encode m)) × (length (encode m) ≤ length d - 1)
   fits n e = go (length (encode m) exceeds (length d - 1)) refl (e ∙ told_is)
@@ -98,13 +116,13 @@ module _ (m d : List ℕ) (short : length m ≤ 240) (some : 0 < length d) where
   dest-fits h = rw (told_is, le-ltb (length d - 1) (length (encode m)) h)
 
   -- the encoder's answer e, and what it left
-  module _ (e : Encoded) (ee : told e ≡ encode_told plain m (length part)) where
-    pub place : (n : ℕ) → e ≡ encoded.Length n → n + 1 ≤ length d
+  module _ (e : Result ℕ EncodeError) (ee : told e ≡ encode_told plain m (length part)) where
+    pub place : (n : ℕ) → e ≡ Ok n → n + 1 ≤ length d
     place n q = let h = fits n (sym (ap told q) ∙ ee) in omega (arith, h.0, h.1)
 
-    module _ (u : List ℕ) (eu : u ≡ encode_dest plain m part) (ok : message_told 16 240 m ≡ done 0 0) where
-      pub writes_nothing : OneOf (1 ∷ 2 ∷ []) (tag_of the_type e) → Writes m d dest_buf_too_small (u ++ drop (length d - 1) d)
-      writes_nothing o = go (length (encode m) exceeds (length d - 1)) refl
+    module _ (u : List ℕ) (eu : u ≡ encode_dest plain m part) where
+      pub writes_nothing : (x : EncodeError) → e ≡ Err x → Writes m d dest_buf_too_small (u ++ drop (length d - 1) d)
+      writes_nothing x r = go (length (encode m) exceeds (length d - 1)) refl
         where
           go : (t : Bool) → (length (encode m) exceeds (length d - 1)) ≡ t → Writes m d dest_buf_too_small (u ++ drop (length d - 1) d)
           go true q =
@@ -115,9 +133,9 @@ module _ (m d : List ℕ) (short : length m ≤ 240) (some : 0 < length d) where
               (w.0, back ∙ w.1)
           go false q =
               let told-done : told e ≡ done (length (encode m)) 0 = ee ∙ told_is ∙ rw q in
-              absurd (true≢false (sym (ap is_done told-done) ∙ not_length e o))
+              absurd (true≢false (sym (ap is_done told-done) ∙ ap (λ (e : Result ℕ EncodeError). is_done (told e)) r ∙ not_length x))
 
-      pub writes_frame : (n : ℕ) → e ≡ encoded.Length n → Writes m d (done (n + 1) 0) (set (u ++ drop (length d - 1) d) n 0)
+      pub writes_frame : (n : ℕ) → e ≡ Ok n → Writes m d (done (n + 1) 0) (set (u ++ drop (length d - 1) d) n 0)
       unfolding framed
       writes_frame n q =
           let h = fits n (sym (ap told q) ∙ ee) in

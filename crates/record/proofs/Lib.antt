@@ -1,8 +1,6 @@
 -- The laws of records, for the proofs of this crate and of the floors above.
 pub mod Signs
 pub mod Valid
-pub mod Bytes
-pub mod Ways
 pub mod Round
 pub mod Frames
 pub mod Known

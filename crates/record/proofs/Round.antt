@@ -1,5 +1,6 @@
 -- The round trip: a record that is written is read back, and one that is read is written back the same. Assumes nothing.
-use Rattle.std.proofs.Common.{◌≡◌, ℕ, suc, ◌+◌, ◌-◌, ◌*◌, ◌/◌, ◌%◌, ◌<◌, ◌≤◌, Bool, true, false, ◌&&◌, leb, List, [], ◌∷◌, ◌++◌, length, get_or, take, drop, replicate, ℤ, pos, negsuc, sym, refl, ap, ◌∙◌, ap₂, true≢false, mod-eq_of_lt, zero-add, arith, drop-cons, le-leb, leb-true, if◌then◌else◌}
+use Rattle.std.proofs.Common.{◌≡◌, ℕ, suc, ◌+◌, ◌-◌, ◌*◌, ◌/◌, ◌%◌, ◌<◌, ◌≤◌, Bool, true, false, leb, List, [], ◌∷◌, ◌++◌, length, get_or, take, drop, replicate, ℤ, pos, negsuc, Result, Ok, Err, sym, refl, ap, ◌∙◌, ap₂, mod-eq_of_lt, zero-add, arith, drop-cons, le-leb, leb-true, if◌then◌else◌}
+use Rattle.std.proofs.lemmas.Bool.{and_parts}
 use native.Mathlib.Nat.{add-mul-mod_self_left, add-mul-div_left, div-eq_of_lt}
 use native.Mathlib.Decide.{dec_lt}
 use lib.Signed.{mag}
@@ -11,7 +12,7 @@ use Rattle.record.specs.Record.{bytes16, bytes32, bits, signed, fields_of, bytes
 use Rattle.record.specs.declared.Fields.{Fields}
 use Rattle.record.specs.declared.Record.{Record}
 use Rattle.record.specs.declared.Record.TheVariants.{Particle, Close}
-use Rattle.record.specs.declared.ReadAnswer.TheVariants.{Good, BadRecord}
+use Rattle.record.specs.declared.BadRecord.{BadRecord}
 use Rattle.record.proofs.Signs.{bits_small, signed_low, signed_high}
 use Rattle.record.proofs.Valid.{Valid, valid-says}
 use Rattle.record.proofs.Valid as valid
@@ -96,7 +97,7 @@ was_valid : (ok : Bool) → (if ok then done 0 0 else bad_record 0) ≡ done 0 0
 was_valid true e = refl
 was_valid false e = absurd (unlike e (omega arith))
 
-pub read-written : (r : Record) (t : List ℕ) → Holds r → write_told 0 r ≡ done 0 0 → read_of 0 (written_bytes 0 r ++ t) ≡ Good r
+pub read-written : (r : Record) (t : List ℕ) → Holds r → write_told 0 r ≡ done 0 0 → read_of 0 (written_bytes 0 r ++ t) ≡ Ok r
 unfolding write_told written_bytes is_record read_of
 read-written r t h e =
     let ok : is_valid 0 (fields_for 0 r) ≡ true = was_valid (is_valid 0 (fields_for 0 r)) e in
@@ -105,19 +106,19 @@ read-written r t h e =
 -- ---- from the bytes to a record and back
 
 -- what is read as a record is one
-pub read_is : (s : List ℕ) (r : Record) → read_of 0 s ≡ Good r → is_record 0 s ≡ true
+pub read_is : (s : List ℕ) (r : Record) → read_of 0 s ≡ Ok r → is_record 0 s ≡ true
 unfolding read_of
 read_is s r e = go (is_record 0 s) e
   where
-    go : (ok : Bool) → (if ok then Good (record_in (fields_of s)) else BadRecord) ≡ Good r → ok ≡ true
+    go : (ok : Bool) → if◌then◌else◌ {A = Result Record BadRecord} ok (Ok (record_in (fields_of s))) (Err record {}) ≡ Ok r → ok ≡ true
     go true e = refl
     go false e = let z : ◌≡◌ {A = ℕ} 0 1 = cc in absurd (omega arith)
 
-pub read_not : (s : List ℕ) → read_of 0 s ≡ BadRecord → is_record 0 s ≡ false
+pub read_not : (s : List ℕ) → read_of 0 s ≡ Err record {} → is_record 0 s ≡ false
 unfolding read_of
 read_not s e = go (is_record 0 s) e
   where
-    go : (ok : Bool) → (if ok then Good (record_in (fields_of s)) else BadRecord) ≡ BadRecord → ok ≡ false
+    go : (ok : Bool) → if◌then◌else◌ {A = Result Record BadRecord} ok (Ok (record_in (fields_of s))) (Err record {}) ≡ Err record {} → ok ≡ false
     go true e = let z : ◌≡◌ {A = ℕ} 0 1 = cc in absurd (omega arith)
     go false e = refl
 
@@ -127,14 +128,10 @@ pub record Says (s : List ℕ) (r : Record) : Type 0 where
   pub valid : is_valid 0 (fields_of s) ≡ true
   pub item : record_in (fields_of s) ≡ r
 
-both : (a b : Bool) → (a && b) ≡ true → (a ≡ true) × (b ≡ true)
-both true b e = (refl, e)
-both false b e = absurd (true≢false (sym e))
-
-pub read-says : (s : List ℕ) (r : Record) → read_of 0 s ≡ Good r → Says s r
+pub read-says : (s : List ℕ) (r : Record) → read_of 0 s ≡ Ok r → Says s r
 unfolding is_record read_of
 read-says s r e =
-    let is = both (leb 16 (length s)) (is_valid 0 (fields_of s)) (read_is s r e) in
+    let is = and_parts (leb 16 (length s)) (is_valid 0 (fields_of s)) (read_is s r e) in
     let found = rw (is.0, is.1) at e in
     record { whole = leb-true 16 (length s) is.0; valid = is.1; item = cc }
 
@@ -202,7 +199,7 @@ bytes-fields s b l =
     (four_bytes (get_or s 12 0) (get_or s 13 0) (get_or s 14 0) (get_or s 15 0) (h 12) (h 13) (h 14) (h 15)))))))
     ∙ sym (sixteen s l)
 
-pub written_read : (s : List ℕ) (r : Record) → Bytes s → read_of 0 s ≡ Good r
+pub written_read : (s : List ℕ) (r : Record) → Bytes s → read_of 0 s ≡ Ok r
     → (write_told 0 r ≡ done 0 0) × (written_bytes 0 r ≡ take 16 s)
 unfolding write_told written_bytes
 written_read s r h e =
@@ -212,7 +209,7 @@ written_read s r h e =
     (rw (same, ok.valid), rw (same, ok.valid) (bytes-fields s h ok.whole))
 
 -- a particle that is read weighs no more than it may
-pub read-weight : (s : List ℕ) {b i : ℕ} {x y z : ℤ} {w : ℕ} → read_of 0 s ≡ Good (Particle b i x y z w) → w ≤ 1000000
+pub read-weight : (s : List ℕ) {b i : ℕ} {x y z : ℤ} {w : ℕ} → read_of 0 s ≡ Ok (Particle b i x y z w) → w ≤ 1000000
 unfolding record_in
 read-weight s {b} {i} {x} {y} {z} {w} e = go (fields_of s) (valid-says (fields_of s) (read-says s (Particle b i x y z w) e).valid) (read-says s (Particle b i x y z w) e).item
   where
@@ -227,7 +224,7 @@ read-weight s {b} {i} {x} {y} {z} {w} e = go (fields_of s) (valid-says (fields_o
         absurd (omega arith)
 
 -- and the total of a close that is read fits 32 bits
-pub read-total : (s : List ℕ) {b n t : ℕ} → Bytes s → read_of 0 s ≡ Good (Close b n t) → t < 4294967296
+pub read-total : (s : List ℕ) {b n t : ℕ} → Bytes s → read_of 0 s ≡ Ok (Close b n t) → t < 4294967296
 unfolding record_in
 read-total s {b} {n} {t} h e =
     let says = read-says s (Close b n t) e in

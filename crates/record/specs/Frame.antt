@@ -1,13 +1,11 @@
 -- 01 "Particle records": a frame carries 1 to 15 records; what its writer answers, and what it leaves. Assumes nothing.
-use Rattle.std.specs.Prelude.{ℕ, zero, suc, ◌/◌, ◌%◌, Bool, not, ◌||◌, List, [], ◌∷◌, ◌++◌, length, drop, ◌==◌, if◌then◌else◌}
+use Rattle.std.specs.Prelude.{ℕ, zero, suc, ◌/◌, ◌%◌, Bool, not, ◌||◌, List, [], ◌∷◌, ◌++◌, length, drop, Result, Ok, Err, ◌==◌, if◌then◌else◌}
 use Rattle.cobs.specs.Words.{◌exceeds◌}
 use Rattle.cobs.specs.Code.{encode, over}
 use Rattle.cobs.specs.Answers.{Told, done, dest_buf_too_small, bad_length, bad_record, is_done, if_done}
 use Rattle.record.specs.Record.{is_record}
-use Rattle.record.specs.declared.frame.FrameWritten.{FrameWritten}
-use Rattle.record.specs.declared.frame.FrameWritten.TheVariants as frame
-use Rattle.record.specs.declared.frame.Checked.{Checked}
-use Rattle.record.specs.declared.frame.Checked.TheVariants.{AllGood, BadRecord}
+use Rattle.record.specs.declared.frame.FrameError.{FrameError}
+use Rattle.record.specs.declared.frame.FrameError.TheVariants as refusal
 
 -- BadLength: frame message of 0 bytes, over 240, or not a multiple of 16.
 unfoldable pub is_bad_length : (size most : ℕ) (n : ℕ) → Bool
@@ -27,12 +25,16 @@ message_told size most m =
 unfoldable pub framed : (m : List ℕ) → List ℕ
 framed m = encode m ++ 0 ∷ []
 
+-- A refusal, told.
+abbrev pub told_refusal : FrameError → Told
+told_refusal refusal.BadLength = bad_length
+told_refusal (refusal.BadRecord k) = bad_record k
+told_refusal refusal.DestBufTooSmall = dest_buf_too_small
+
 -- What the frame writer answers, told.
-abbrev pub told_frame : FrameWritten → Told
-told_frame (frame.Length n) = done n 0
-told_frame frame.BadLength = bad_length
-told_frame (frame.BadRecord k) = bad_record k
-told_frame frame.DestBufTooSmall = dest_buf_too_small
+abbrev pub told_frame : Result ℕ FrameError → Told
+told_frame (Ok n) = done n 0
+told_frame (Err e) = told_refusal e
 
 -- Writing message m into a buffer of so many bytes: 7, 8, 4, never 5.
 unfoldable pub frame_told : (m : List ℕ) (room : ℕ) → Told
@@ -46,6 +48,6 @@ unfoldable pub frame_dest : (m d : List ℕ) → List ℕ
 frame_dest m d = if_done (frame_told m (length d)) (over (framed m) d) d
 
 -- What the helper that checks the records found. No public promise cites it.
-abbrev pub told_checked : Checked → Told
-told_checked AllGood = done 0 0
-told_checked (BadRecord k) = bad_record k
+abbrev pub told_checked : Result Unit FrameError → Told
+told_checked (Ok _) = done 0 0
+told_checked (Err e) = told_refusal e

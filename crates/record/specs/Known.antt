@@ -1,20 +1,19 @@
 -- 01 "Known bytes": every starred example, those of the code and the record's, proved of the definitions that the calls'
 -- promises cite, as one statement over the list. Assumes nothing.
-use Rattle.std.specs.Prelude.{◌≡◌, ℕ, List, [], ◌∷◌, ◌++◌, map, length, replicate, pos, negsuc}
+use Rattle.std.specs.Prelude.{◌≡◌, ℕ, List, [], ◌∷◌, ◌++◌, map, length, replicate, pos, negsuc, Result, Ok}
 use Rattle.cobs.specs.Answers.{Told, done}
 use Rattle.cobs.specs.OneShot.{plain, encode_told, encode_dest}
 use Rattle.cobs.specs.Known as code
 use Rattle.record.specs.Record.{write_told, written_bytes, read_of}
 use Rattle.record.specs.declared.Record.{Record}
 use Rattle.record.specs.declared.Record.TheVariants.{Particle}
-use Rattle.record.specs.declared.ReadAnswer.{ReadAnswer}
-use Rattle.record.specs.declared.ReadAnswer.TheVariants.{Good}
+use Rattle.record.specs.declared.BadRecord.{BadRecord}
 
 -- An example: the call and its bytes, and what it gives.
 pub data Example : Type 0 where
   of_code : code.Example → Example
   -- a record, the writer's answer and bytes, what reads back from them, and their encoding's length and bytes
-  written : Record → (answer : Told) (bytes : List ℕ) (back : ReadAnswer) (encoded : Told) (encoding : List ℕ) → Example
+  written : Record → (answer : Told) (bytes : List ℕ) (back : Result Record BadRecord) (encoded : Told) (encoding : List ℕ) → Example
 
 -- The same call, with what the definitions give.
 unfoldable pub given : Example → Example
@@ -32,7 +31,7 @@ examples =
     map of_code code.examples
     ++ written particle (done 0 0)
     (0x01 ∷ 0x00 ∷ 0x00 ∷ 0x00 ∷ 0xFF ∷ 0xFF ∷ 0x00 ∷ 0x00 ∷ 0x40 ∷ 0x00 ∷ 0x01 ∷ 0x00 ∷ 0xE8 ∷ 0x03 ∷ 0x00 ∷ 0x00 ∷ [])
-    (Good particle) (done 17 0)
+    (Ok particle) (done 17 0)
     (0x02 ∷ 0x01 ∷ 0x01 ∷ 0x01 ∷ 0x03 ∷ 0xFF ∷ 0xFF ∷ 0x01 ∷ 0x02 ∷ 0x40 ∷ 0x02 ∷ 0x01 ∷ 0x03 ∷ 0xE8 ∷ 0x03 ∷ 0x01 ∷ 0x01 ∷ [])
     ∷ []
 

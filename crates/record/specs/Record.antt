@@ -1,13 +1,10 @@
 -- 01 "Particle records": a record's fields, their ranges and its bytes, and what writing and reading it answer. Assumes nothing.
-use Rattle.std.specs.Prelude.{ℕ, suc, ◌+◌, ◌-◌, ◌*◌, ◌/◌, ◌%◌, Bool, ◌&&◌, ◌||◌, List, [], ◌∷◌, ◌++◌, length, replicate, ℤ, pos, negsuc, ◌==◌, nat_le, slice_index, if◌then◌else◌}
+use Rattle.std.specs.Prelude.{ℕ, suc, ◌+◌, ◌-◌, ◌*◌, ◌/◌, ◌%◌, Bool, ◌&&◌, ◌||◌, List, [], ◌∷◌, ◌++◌, length, replicate, ℤ, Result, Ok, Err, pos, negsuc, ◌==◌, nat_le, slice_index, if◌then◌else◌}
 use Rattle.cobs.specs.Answers.{Told, done, bad_record, stale, ahead, is_done}
 use Rattle.record.specs.declared.Record.{Record}
 use Rattle.record.specs.declared.Record.TheVariants.{Particle, Close}
 use Rattle.record.specs.declared.Fields.{Fields}
-use Rattle.record.specs.declared.WriteAnswer.{WriteAnswer}
-use Rattle.record.specs.declared.WriteAnswer.TheVariants as write
-use Rattle.record.specs.declared.ReadAnswer.{ReadAnswer}
-use Rattle.record.specs.declared.ReadAnswer.TheVariants as read
+use Rattle.record.specs.declared.BadRecord.{BadRecord}
 use Rattle.record.specs.declared.Class.{Class}
 use Rattle.record.specs.declared.Class.TheVariants.{Ours, Ahead, Stale}
 
@@ -89,9 +86,9 @@ is_valid board f = f.board == board && (is_particle f || is_close f)
 -- ---- The writer and the reader
 
 -- What the writer answers, told.
-abbrev pub told_write : WriteAnswer → Told
-told_write write.Done = done 0 0
-told_write write.BadRecord = bad_record 0
+abbrev pub told_write : Result Unit BadRecord → Told
+told_write (Ok _) = done 0 0
+told_write (Err _) = bad_record 0
 
 -- BadRecord: a field outside its range.
 unfoldable pub write_told : (board : ℕ) → Record → Told
@@ -106,13 +103,13 @@ unfoldable pub is_record : (board : ℕ) (s : List ℕ) → Bool
 is_record board s = nat_le 16 (length s) && is_valid board (fields_of s)
 
 -- The record that s starts with. Anything else is BadRecord.
-unfoldable pub read_of : (board : ℕ) (s : List ℕ) → ReadAnswer
-read_of board s = if is_record board s then read.Good (record_in (fields_of s)) else read.BadRecord
+unfoldable pub read_of : (board : ℕ) (s : List ℕ) → Result Record BadRecord
+read_of board s = if is_record board s then Ok (record_in (fields_of s)) else Err record {}
 
 -- A telling has no room for a record's fields.
-abbrev pub told_read : ReadAnswer → Told
-told_read (read.Good r) = done 0 0
-told_read read.BadRecord = bad_record 0
+abbrev pub told_read : Result Record BadRecord → Told
+told_read (Ok _) = done 0 0
+told_read (Err _) = bad_record 0
 
 -- Done, or BadRecord.
 unfoldable pub read_told : (board : ℕ) (s : List ℕ) → Told

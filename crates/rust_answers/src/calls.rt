@@ -1,26 +1,46 @@
 //! Our side of a case, through the calls for C callers; `try_encode` and the streaming calls have none and are called themselves.
-use dec::stream::{CobsDecoder, PushAnswer};
-use enc::oneshot::Encoded;
-use enc::stream::Finished;
+use cobs::refusals::BadState;
+use dec::stream::{CobsDecoder, Frame, PushError};
+use enc::oneshot::EncodeError;
 
-/// An answer as its number and two values.
-#[derive(Clone, Copy)]
+/// An answer as its number and two values: so the calls for C give it, and a case's line has it.
+#[derive(Clone, Copy, Debug, PartialEq, Eq)]
 pub(crate) struct Told {
     pub(crate) number: u8,
     pub(crate) first: usize,
     pub(crate) second: usize,
 }
 
-/// What a case asks for: a call, as `cases` numbers them, and the numbers that some take.
+/// What a case asks for: a call, with the sentinel that it takes, or the length of the first of two pieces.
 #[derive(Clone, Copy)]
-pub(crate) struct Asked {
-    pub(crate) kind: usize,
-    pub(crate) sentinel: u8,
-    pub(crate) cut: usize,
+pub(crate) enum Call {
+    Encode,
+    TryEncode,
+    EncodeIncludingSentinels,
+    EncodeWithSentinel(u8),
+    Decode,
+    DecodeInPlaceReport,
+    DecodeWithSentinel(u8),
+    CobsEncoder(usize),
+    CobsDecoder(usize),
 }
 
-// A number that no answer has.
-const NONE: u8 = 255;
+impl Call {
+    /// Its name in the Rust.
+    pub(crate) fn name(self) -> &'static str {
+        match self {
+            Call::Encode => "encode",
+            Call::TryEncode => "try_encode",
+            Call::EncodeIncludingSentinels => "encode_including_sentinels",
+            Call::EncodeWithSentinel(_) => "encode_with_sentinel",
+            Call::Decode => "decode",
+            Call::DecodeInPlaceReport => "decode_in_place_report",
+            Call::DecodeWithSentinel(_) => "decode_with_sentinel",
+            Call::CobsEncoder(_) => "CobsEncoder",
+            Call::CobsDecoder(_) => "CobsDecoder",
+        }
+    }
+}
 
 fn sized(number: u8, first: usize) -> Told {
     Told {
@@ -38,9 +58,9 @@ fn encode(src: &[u8], dest: &mut [u8]) -> Told {
 
 fn try_encode(src: &[u8], dest: &mut [u8]) -> Told {
     match enc::oneshot::try_encode(src, dest) {
-        Encoded::Length(n) => sized(0, n),
-        Encoded::TooLong => sized(5, 0),
-        Encoded::DestBufTooSmall => sized(4, 0),
+        Ok(n) => sized(0, n),
+        Err(EncodeError::TooLong) => sized(5, 0),
+        Err(EncodeError::DestBufTooSmall) => sized(4, 0),
     }
 }
 
@@ -85,75 +105,62 @@ fn unchosen(src: &[u8], dest: &mut [u8], sentinel: u8) -> Told {
 }
 
 // Two pieces through an encoder that holds its buffer, finished.
-fn pieces(cut: usize, src: &[u8], dest: &mut [u8]) -> Told {
-    if src.len() < cut {
-        return sized(NONE, 0);
-    }
-    let two = held::encode_two(dest, &src[0..cut], &src[cut..]);
-    let finished = two.finished;
-    match finished {
-        Finished::Length(n) => sized(0, n),
-        Finished::BadState => sized(6, 0),
+fn pieces(first: &[u8], second: &[u8], dest: &mut [u8]) -> Told {
+    match held::encode_two(dest, first, second).finished {
+        Ok(n) => sized(0, n),
+        Err(BadState) => sized(6, 0),
     }
 }
 
-fn pushed(found: PushAnswer) -> Told {
+fn pushed(found: Result<Option<Frame>, PushError>) -> Told {
     match found {
-        PushAnswer::More => sized(14, 0),
-        PushAnswer::Frame { size, parsed } => Told {
+        Ok(None) => sized(14, 0),
+        Ok(Some(Frame { size, parsed })) => Told {
             number: 0,
             first: size,
             second: parsed,
         },
-        PushAnswer::InvalidFrame { decoded, consumed } => Told {
+        Err(PushError::InvalidFrame { decoded, consumed }) => Told {
             number: 2,
             first: decoded,
             second: consumed,
         },
-        PushAnswer::TargetBufTooSmall { consumed } => Told {
+        Err(PushError::TargetBufTooSmall { consumed }) => Told {
             number: 3,
             first: 0,
             second: consumed,
         },
-        PushAnswer::BadState => sized(6, 0),
+        Err(PushError::BadState) => sized(6, 0),
     }
 }
 
 // Two pieces to a new decoder: the second's answer. The first is to be used up.
-fn frames(cut: usize, src: &[u8], dest: &mut [u8]) -> Told {
-    if src.len() < cut {
-        return sized(NONE, 0);
-    }
-    let first = CobsDecoder::new().push(dest, &src[0..cut]);
-    let found = first.answer;
-    let decoder = first.next;
-    let PushAnswer::More = found else {
-        return sized(NONE, 0);
+fn frames(first: &[u8], second: &[u8], dest: &mut [u8]) -> Option<Told> {
+    let begun = CobsDecoder::new().push(dest, first);
+    let Ok(None) = begun.answer else {
+        return None;
     };
-    let second = decoder.push(dest, &src[cut..]);
-    let last = second.answer;
-    pushed(last)
+    Some(pushed(begun.next.push(dest, second).answer))
 }
 
-fn one_shot(asked: Asked, src: &[u8], dest: &mut [u8]) -> Told {
-    let kind = asked.kind;
-    match kind {
-        0 => encode(src, dest),
-        1 => try_encode(src, dest),
-        2 => around(src, dest),
-        3 => chosen(src, dest, asked.sentinel),
-        4 => decode(src, dest),
-        5 => in_place(dest),
-        _ => unchosen(src, dest, asked.sentinel),
-    }
-}
-
-/// The call that a case asks for.
-pub(crate) fn call(asked: Asked, src: &[u8], dest: &mut [u8]) -> Told {
-    let kind = asked.kind;
-    match kind {
-        7 => pieces(asked.cut, src, dest),
-        8 => frames(asked.cut, src, dest),
-        _ => one_shot(asked, src, dest),
-    }
+/// The answer to the call that a case asks for; none where the first piece would be longer than the source or ends a frame.
+pub(crate) fn answer(call: Call, src: &[u8], dest: &mut [u8]) -> Option<Told> {
+    let told = match call {
+        Call::Encode => encode(src, dest),
+        Call::TryEncode => try_encode(src, dest),
+        Call::EncodeIncludingSentinels => around(src, dest),
+        Call::EncodeWithSentinel(sentinel) => chosen(src, dest, sentinel),
+        Call::Decode => decode(src, dest),
+        Call::DecodeInPlaceReport => in_place(dest),
+        Call::DecodeWithSentinel(sentinel) => unchosen(src, dest, sentinel),
+        Call::CobsEncoder(cut) => {
+            let (first, second) = src.split_at_checked(cut)?;
+            pieces(first, second, dest)
+        }
+        Call::CobsDecoder(cut) => {
+            let (first, second) = src.split_at_checked(cut)?;
+            return frames(first, second, dest);
+        }
+    };
+    Some(told)
 }

@@ -9,6 +9,8 @@ mod cases;
 mod say;
 mod text;
 
+use calls::Call;
+use say::Tally;
 use std::io;
 use std::io::{Bytes, Read};
 
@@ -16,37 +18,36 @@ use std::io::{Bytes, Read};
 fn replay<R: Read + Drop>(
     rt: &impl Print,
     input: &mut Bytes<R>,
-    alike: &mut [usize],
-    unlike: &mut [usize],
+    tallies: &mut [Tally],
 ) -> io::Result<()> {
-    let mut line: usize = 0;
-    while line < 1_000_000 {
-        line += 1;
-        let kind = cases::next_kind(input)?;
-        if kind == cases::END {
+    for line in 1..=1_000_000 {
+        let Some(call) = cases::next_call(input)? else {
             return Ok(());
-        }
-        if cases::is_as_stored(rt, input, kind, line)? {
-            cases::count(alike, kind);
-        } else {
-            cases::count(unlike, kind);
+        };
+        let alike = cases::is_as_stored(rt, input, call, line)?;
+        for tally in tallies.iter_mut() {
+            tally.count(call, alike);
         }
     }
     Ok(())
 }
 
 fn main(rt: HostRuntime) -> io::Result<()> {
-    let mut alike = [0usize; 9];
-    let mut unlike = [0usize; 9];
+    let mut tallies = [
+        Tally::new(Call::Encode),
+        Tally::new(Call::TryEncode),
+        Tally::new(Call::EncodeIncludingSentinels),
+        Tally::new(Call::EncodeWithSentinel(0)),
+        Tally::new(Call::Decode),
+        Tally::new(Call::DecodeInPlaceReport),
+        Tally::new(Call::DecodeWithSentinel(0)),
+        Tally::new(Call::CobsEncoder(0)),
+        Tally::new(Call::CobsDecoder(0)),
+    ];
     let mut input = rt.reader().bytes();
-    replay(&rt, &mut input, &mut alike, &mut unlike)?;
-    say::tally(&rt, b"encode", alike[0], unlike[0])?;
-    say::tally(&rt, b"try_encode", alike[1], unlike[1])?;
-    say::tally(&rt, b"encode_including_sentinels", alike[2], unlike[2])?;
-    say::tally(&rt, b"encode_with_sentinel", alike[3], unlike[3])?;
-    say::tally(&rt, b"decode", alike[4], unlike[4])?;
-    say::tally(&rt, b"decode_in_place_report", alike[5], unlike[5])?;
-    say::tally(&rt, b"decode_with_sentinel", alike[6], unlike[6])?;
-    say::tally(&rt, b"CobsEncoder", alike[7], unlike[7])?;
-    say::tally(&rt, b"CobsDecoder", alike[8], unlike[8])
+    replay(&rt, &mut input, &mut tallies)?;
+    for tally in tallies {
+        println!(rt; "{tally}")?;
+    }
+    Ok(())
 }

@@ -1,32 +1,53 @@
 //! What is printed: a line for each call, and one for each case that is not as stored.
-use crate::calls::Told;
-use std::io;
+use crate::calls::{Call, Told};
+use std::{fmt, io};
 
-pub(crate) fn text(rt: &impl Print, words: &[u8]) -> io::Result<()> {
-    rt.write_all(words)
+/// How many cases of a call are as stored, and how many are not.
+#[derive(Clone, Copy)]
+pub(crate) struct Tally {
+    name: &'static str,
+    alike: usize,
+    unlike: usize,
 }
 
-fn number(rt: &impl Print, n: usize) -> io::Result<()> {
-    print!(rt; "{n}")
+impl Tally {
+    pub(crate) fn new(call: Call) -> Tally {
+        Tally {
+            name: call.name(),
+            alike: 0,
+            unlike: 0,
+        }
+    }
+
+    /// Counts the case, if it is of this call.
+    pub(crate) fn count(&mut self, call: Call, alike: bool) {
+        if self.name != call.name() {
+            return;
+        }
+        if alike {
+            self.alike = self.alike.saturating_add(1);
+        } else {
+            self.unlike = self.unlike.saturating_add(1);
+        }
+    }
 }
 
-pub(crate) fn tally(rt: &impl Print, name: &[u8], alike: usize, unlike: usize) -> io::Result<()> {
-    text(rt, name)?;
-    text(rt, b": ")?;
-    number(rt, alike)?;
-    text(rt, b" as the Rust, ")?;
-    number(rt, unlike)?;
-    text(rt, b" not\n")
+impl fmt::Display for Tally {
+    fn fmt<W: fmt::Write>(&self, f: &mut fmt::Formatter<W>) -> fmt::Result {
+        let Tally {
+            name,
+            alike,
+            unlike,
+        } = *self;
+        write!(f, "{name}: {alike} as the Rust, {unlike} not")
+    }
 }
 
 pub(crate) fn differs(rt: &impl Print, line: usize, ours: Told) -> io::Result<()> {
-    text(rt, b"line ")?;
-    number(rt, line)?;
-    text(rt, b": ours answers ")?;
-    number(rt, ours.number as usize)?;
-    text(rt, b" ")?;
-    number(rt, ours.first)?;
-    text(rt, b" ")?;
-    number(rt, ours.second)?;
-    text(rt, b"\n")
+    let Told {
+        number,
+        first,
+        second,
+    } = ours;
+    println!(rt; "line {line}: ours answers {number} {first} {second}")
 }

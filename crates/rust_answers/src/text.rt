@@ -11,10 +11,7 @@ const LINE: u8 = 10;
 const SPACE: u8 = 32;
 
 fn byte<R: Read + Drop>(input: &mut Bytes<R>) -> io::Result<u8> {
-    match input.next() {
-        Some(read) => read,
-        None => Ok(LINE),
-    }
+    input.next().unwrap_or(Ok(LINE))
 }
 
 /// The next word's first letter, or an end of line; the word is passed over.
@@ -23,9 +20,7 @@ pub(crate) fn initial<R: Read + Drop>(input: &mut Bytes<R>) -> io::Result<u8> {
     if first <= SPACE {
         return Ok(first);
     }
-    let mut n: usize = 0;
-    while n < 100 {
-        n += 1;
+    for _ in 0..100 {
         if byte(input)? <= SPACE {
             return Ok(first);
         }
@@ -44,9 +39,7 @@ fn with_digit(n: usize, digit: u8) -> usize {
 /// The next word as a decimal number.
 pub(crate) fn decimal<R: Read + Drop>(input: &mut Bytes<R>) -> io::Result<usize> {
     let mut value: usize = 0;
-    let mut digits: usize = 0;
-    while digits < 20 {
-        digits += 1;
+    for _ in 0..20 {
         let digit = byte(input)?;
         if digit <= SPACE {
             return Ok(value);
@@ -70,8 +63,7 @@ fn nibble(digit: u8) -> u8
 pub(crate) fn bytes<R: Read + Drop>(input: &mut Bytes<R>, out: &mut [u8]) -> io::Result<usize>
     ensures { IfOk result (λ n. n ≤ length out.old) }
 {
-    let mut n = 0;
-    while n < out.len() {
+    for (n, slot) in out.iter_mut().enumerate() {
         let high = byte(input)?;
         if high <= SPACE {
             return Ok(n);
@@ -80,8 +72,7 @@ pub(crate) fn bytes<R: Read + Drop>(input: &mut Bytes<R>, out: &mut [u8]) -> io:
         if low <= SPACE {
             return Ok(n);
         }
-        out[n] = nibble(high) * 16 + nibble(low);
-        n += 1;
+        *slot = nibble(high) * 16 + nibble(low);
     }
-    Ok(n)
+    Ok(out.len())
 }

@@ -1,5 +1,6 @@
 -- The receiver as what takes the frames: a good state stays good over any frame, its answer is never More, and neither its
 -- answer nor its state depends on the table's bytes. Assumes nothing.
+use Rattle.std.specs.Prelude.{Ok, Err}
 use mathlib.Core.Path.{◌≡◌, refl, sym, ap, ap₂, ◌∙◌}
 use mathlib.Core.Logic.{◌≢◌}
 use mathlib.Core.Bool.{false}
@@ -10,14 +11,12 @@ use lib.ListN.{length, drop}
 use Rattle.cobs.specs.Answers.{more}
 use Rattle.record.specs.Frame.{is_bad_length}
 use Rattle.batch.specs.State.{marked_in, is_bad, stand_told}
-use Rattle.batch.specs.Verdict.{verdict, after, stored}
-use Rattle.batch.specs.Frame.{told, Outcome, refused, taken, on_verdict, take_all, outcome, outcome_told, next_after, table_after, accept_told, accept_next, accept_table}
+use Rattle.batch.specs.Verdict.{Verdict, verdict, after, stored}
+use Rattle.batch.specs.Frame.{told_refusal, Outcome, refused, taken, on_verdict, take_all, outcome, outcome_told, next_after, table_after, accept_told, accept_next, accept_table}
 use Rattle.batch.specs.declared.Receiver.{Receiver}
-use Rattle.batch.specs.declared.Answer.{Answer}
-use Rattle.batch.specs.declared.Answer.TheVariants.{BadState, BadLength, BadRecord, Stale, Ahead, NoRoom, BeyondClose, Conflict, Open, Missing, Complete, Differs}
+use Rattle.batch.specs.declared.Refusal.{Refusal}
+use Rattle.batch.specs.declared.Refusal.TheVariants.{BadState, BadLength, BadRecord, Stale, Ahead, NoRoom, BeyondClose, Conflict}
 use Rattle.batch.specs.declared.judge.Effect.{Effect}
-use Rattle.batch.specs.declared.judge.Verdict.{Verdict}
-use Rattle.batch.specs.declared.judge.Verdict.TheVariants.{Take, Refuse}
 use Rattle.batch.proofs.Good.{Good, not_bad}
 use Rattle.batch.proofs.Kept.{accept-length, accept-good}
 use Rattle.batch.proofs.Effects.{stored-length}
@@ -41,23 +40,19 @@ keeps e f g =
 
 -- ---- its answer is never More
 
-told_not_more : (a : Answer) → (told a).number ≢ 14
-told_not_more BadState = λ e. omega arith
-told_not_more BadLength = λ e. omega arith
-told_not_more (BadRecord k) = λ e. omega arith
-told_not_more (Stale k) = λ e. omega arith
-told_not_more (Ahead k) = λ e. omega arith
-told_not_more (NoRoom k) = λ e. omega arith
-told_not_more (BeyondClose k) = λ e. omega arith
-told_not_more (Conflict k) = λ e. omega arith
-told_not_more Open = λ e. omega arith
-told_not_more (Missing k) = λ e. omega arith
-told_not_more Complete = λ e. omega arith
-told_not_more Differs = λ e. omega arith
+refusal_not_more : (a : Refusal) → (told_refusal a).number ≢ 14
+refusal_not_more BadState = λ e. omega arith
+refusal_not_more BadLength = λ e. omega arith
+refusal_not_more (BadRecord k) = λ e. omega arith
+refusal_not_more (Stale k) = λ e. omega arith
+refusal_not_more (Ahead k) = λ e. omega arith
+refusal_not_more (NoRoom k) = λ e. omega arith
+refusal_not_more (BeyondClose k) = λ e. omega arith
+refusal_not_more (Conflict k) = λ e. omega arith
 
 outcome_not_more : (o : Outcome) → (outcome_told o).number ≢ 14
 unfolding stand_told
-outcome_not_more (refused a) = told_not_more a
+outcome_not_more (refused a) = refusal_not_more a
 outcome_not_more (taken r t) = λ e. omega (arith, stands_from (marked_in r) r.total r.close)
 
 pub answers : (e : End) (f : List ℕ) → (accepting.says e f).number ≢ more.number
@@ -80,8 +75,8 @@ Alike (taken r t) (refused a) = ⊥
 Alike (taken r t) (taken q u) = (r ≡ q) × (length t ≡ length u)
 
 on_alike : (v : Verdict) (f g : Effect → Outcome) → ((e : Effect) → Alike (f e) (g e)) → Alike (on_verdict v f) (on_verdict v g)
-on_alike (Take e) f g h = h e
-on_alike (Refuse a) f g h = refl
+on_alike (Ok e) f g h = h e
+on_alike (Err a) f g h = refl
 
 take-alike : (n k : ℕ) (r : Receiver) (t u s : List ℕ) → length t ≡ length u → Alike (take_all n k r t s) (take_all n k r u s)
 unfolding take_all verdict
@@ -98,7 +93,7 @@ outcome-alike r t u f h =
     (λ e. by_bool (is_bad_length 16 240 (length f)) (λ l. rw (e, l) refl) (λ l. rw (e, l) (take-alike (length f / 16) 0 r t u f h))))
 
 told-alike : (o p : Outcome) → Alike o p → outcome_told o ≡ outcome_told p
-told-alike (refused a) (refused c) h = ap told h
+told-alike (refused a) (refused c) h = ap told_refusal h
 told-alike (refused a) (taken r t) h = absurd h
 told-alike (taken r t) (refused a) h = absurd h
 told-alike (taken r t) (taken q u) h = ap stand_told h.0

@@ -1,6 +1,6 @@
 -- The receiver over records of one batch: whatever has arrived, its marks, total and close say it, and no record is refused.
 -- Assumes nothing.
-use Rattle.std.specs.Prelude.{if◌then◌else◌}
+use Rattle.std.specs.Prelude.{Option, Some, None, Ok, if◌then◌else◌}
 use mathlib.Core.Path.{◌≡◌, refl, sym, ap, ap₂, ◌∙◌}
 use mathlib.Core.Bool.{Bool, true, false}
 use mathlib.Core.List.{List, [], ◌∷◌, ◌++◌}
@@ -15,17 +15,14 @@ use Rattle.marks.specs.Marks.{marked, set_mark, marked_below}
 use Rattle.marks.proofs.Marks.{none-marked, set-mark-here, set-mark-other, set-mark-length}
 use Rattle.marks.proofs.Below.{from-none}
 use Rattle.record.specs.Record.{bytes_of, is_valid, fields_for, write_told, written_bytes, read_of}
-use Rattle.record.specs.declared.ReadAnswer.TheVariants as read
 use Rattle.record.proofs.Valid.{class_same}
 use Rattle.record.proofs.Round.{Holds, particle, close, read-written}
 use Rattle.batch.specs.State.{opened, marked_in, limit_by, limit}
 use Rattle.batch.specs.Verdict.{on_particle, on_close, on_ours, on_read, verdict, after, stored}
 use Rattle.batch.specs.declared.Receiver.{Receiver}
 use Rattle.batch.specs.declared.Close.{Close}
-use Rattle.batch.specs.declared.Close.TheVariants.{Not, Taken}
 use Rattle.batch.specs.declared.judge.Effect.{Effect}
 use Rattle.batch.specs.declared.judge.Effect.TheVariants as effect
-use Rattle.batch.specs.declared.judge.Verdict.TheVariants.{Take}
 use Rattle.dec.proofs.Cases.{by_bool}
 use Rattle.wire.specs.Batch as wire
 use Rattle.wire.specs.Batch.{Batch, count, particle_at, weight_at, total, Sendable, Item, record_of, IsOf, AllOf, has, has_close, arrived_total}
@@ -55,7 +52,7 @@ module _ (b : Batch) (can : Sendable b) where
   unfolding write_told
   written item h = rw (valid item h)
 
-  pub reads : (item : Item) → IsOf b item → (t : List ℕ) → read_of 0 (written_bytes 0 (record_of b item) ++ t) ≡ read.Good (record_of b item)
+  pub reads : (item : Item) → IsOf b item → (t : List ℕ) → read_of 0 (written_bytes 0 (record_of b item) ++ t) ≡ Ok (record_of b item)
   reads item h t = read-written (record_of b item) t (holds item h) (written item h)
 
   pub record-long : (item : Item) → IsOf b item → length (written_bytes 0 (record_of b item)) ≡ 16
@@ -64,9 +61,12 @@ module _ (b : Batch) (can : Sendable b) where
 
   -- ---- what the receiver holds when these items have arrived, on a table of n bytes with a slot for each particle
 
-  abbrev pub close_by : Bool → Close
-  close_by true = Taken (count b) (total b)
-  close_by false = Not
+  abbrev pub closing : Close
+  closing = record { count = count b; total = total b }
+
+  abbrev pub close_by : Bool → Option Close
+  close_by true = Some closing
+  close_by false = None
 
   pub record Held (n : ℕ) (l : List Item) (r : Receiver) : Type 0 where
     pub batch : r.batch ≡ b.number
@@ -145,7 +145,7 @@ module _ (b : Batch) (can : Sendable b) where
 
       -- the close, first or again
       close-held : (x : Receiver) → x.batch ≡ r.batch → x.marks ≡ r.marks → x.slots ≡ r.slots → x.total ≡ r.total
-          → x.close ≡ Taken (count b) (total b) → Held n (l ++ wire.close ∷ []) x
+          → x.close ≡ Some closing → Held n (l ++ wire.close ∷ []) x
       close-held x eb em es et ec = record {
         batch = eb ∙ h.batch;
         words = ap length em ∙ h.words;
@@ -159,7 +159,7 @@ module _ (b : Batch) (can : Sendable b) where
 
       pub record Took (k : ℕ) (t : List ℕ) (item : Item) (s : List ℕ) : Type 0 where
         pub effect : Effect
-        pub verdict : verdict k r t (written_bytes 0 (record_of b item) ++ s) ≡ Take effect
+        pub verdict : verdict k r t (written_bytes 0 (record_of b item) ++ s) ≡ Ok effect
         pub held : Held n (l ++ item ∷ []) (after effect r)
         pub filled : (t₀ : List ℕ) → length t ≡ n → Filled b t₀ l t → Filled b t₀ (l ++ item ∷ []) (stored effect t (written_bytes 0 (record_of b item) ++ s))
 
@@ -188,7 +188,7 @@ module _ (b : Batch) (can : Sendable b) where
       takes-close k t a s =
           by_bool (has_close l)
           (λ e.
-          let c : r.close ≡ Taken (count b) (total b) = h.close ∙ ap close_by e in
+          let c : r.close ≡ Some closing = h.close ∙ ap close_by e in
           record {
             effect = effect.Repeat;
             verdict = judged k t wire.close tt s ∙ rw (le-ltb r.slots (count b) enough, c, eq-eqb (count b) (count b) refl, eq-eqb (total b) (total b) refl);
@@ -196,11 +196,11 @@ module _ (b : Batch) (can : Sendable b) where
             filled = λ t₀ m f. filled-close b t₀ l t f;
           })
           (λ e.
-          let c : r.close ≡ Not = h.close ∙ ap close_by e in
+          let c : r.close ≡ None = h.close ∙ ap close_by e in
           record {
-            effect = effect.Close (count b) (total b);
+            effect = effect.Close closing;
             verdict = judged k t wire.close tt s ∙ rw (le-ltb r.slots (count b) enough, c, le-ltb (marked_below r.marks (count b)) (marked_in r) (no_mark_above a));
-            held = close-held (after (effect.Close (count b) (total b)) r) refl refl refl refl refl;
+            held = close-held (after (effect.Close closing) r) refl refl refl refl refl;
             filled = λ t₀ m f. filled-close b t₀ l t f;
           })
 

@@ -1,5 +1,5 @@
 -- A frame of another batch: Stale or Ahead at its first record, and nothing is changed. Assumes nothing.
-use Rattle.std.specs.Prelude.{if◌then◌else◌}
+use Rattle.std.specs.Prelude.{Err, if◌then◌else◌}
 use mathlib.Core.Path.{◌≡◌, refl}
 use mathlib.Core.List.{List, [], ◌∷◌, ◌++◌}
 use Prim.Native.Nat.{ℕ, ◌+◌, ◌-◌, ◌*◌, ◌/◌, ◌%◌, ◌<◌}
@@ -9,13 +9,11 @@ use lib.Dec.{leb}
 use lib.ListN.{length}
 use borrow.Author.Tests.{ne_eqb}
 use Rattle.record.specs.Record.{written_bytes, class_of}
-use Rattle.batch.specs.Verdict.{verdict, on_read, on_class}
-use Rattle.batch.specs.Frame.{told, refused, take_all, outcome, accept_told, accept_next, accept_table}
+use Rattle.batch.specs.Verdict.{Verdict, verdict, on_read, on_class}
+use Rattle.batch.specs.Frame.{told_refusal, refused, take_all, outcome, accept_told, accept_next, accept_table}
 use Rattle.batch.specs.declared.Receiver.{Receiver}
-use Rattle.batch.specs.declared.Answer.{Answer}
-use Rattle.batch.specs.declared.Answer.TheVariants.{Ahead, Stale}
-use Rattle.batch.specs.declared.judge.Verdict.{Verdict}
-use Rattle.batch.specs.declared.judge.Verdict.TheVariants.{Refuse}
+use Rattle.batch.specs.declared.Refusal.{Refusal}
+use Rattle.batch.specs.declared.Refusal.TheVariants.{Ahead, Stale}
 use Rattle.batch.proofs.Good.{Good, not_bad}
 use Rattle.dec.proofs.Cases.{by_bool}
 use Rattle.wire.specs.Receive.{End, accepting}
@@ -25,13 +23,13 @@ use Rattle.wire.proofs.Arrived.{reads}
 use Rattle.wire.proofs.Receiving.{message-long, good_length}
 
 module _ (b o : Batch) (small : b.number < 65536) (x : Other b o) where
-  abbrev answer : Answer
+  abbrev answer : Refusal
   answer = if leb ((o.number + (65536 - b.number)) % 65536) 32767 then Ahead 0 else Stale 0
 
-  answer-told : told answer ≡ refusal o.number b.number
+  answer-told : told_refusal answer ≡ refusal o.number b.number
   answer-told = by_bool (leb ((o.number + (65536 - b.number)) % 65536) 32767) (λ q. rw q refl) (λ q. rw q refl)
 
-  class-refuses : (v : Verdict) → on_class 0 (class_of o.number b.number) v ≡ Refuse answer
+  class-refuses : (v : Verdict) → on_class 0 (class_of o.number b.number) v ≡ Err answer
   unfolding class_of
   class-refuses v =
       let can = x.sendable.numbered in
@@ -39,7 +37,7 @@ module _ (b o : Batch) (small : b.number < 65536) (x : Other b o) where
       (by_bool (leb ((o.number + (65536 - b.number)) % 65536) 32767) (λ q. rw q refl) (λ q. rw q refl))
 
   record-refused : (r : Receiver) → r.batch ≡ b.number → (t : List ℕ) (item : Item) → IsOf o item → (s : List ℕ)
-      → verdict 0 r t (written_bytes 0 (record_of o item) ++ s) ≡ Refuse answer
+      → verdict 0 r t (written_bytes 0 (record_of o item) ++ s) ≡ Err answer
   unfolding verdict on_read
   record-refused r e t (particle i) q s = rw (reads o x.sendable (particle i) q s, e) (class-refuses _)
   record-refused r e t close q s = rw (reads o x.sendable close q s, e) (class-refuses _)

@@ -5,10 +5,12 @@ ghost use Rattle.std.specs.Prelude.{◌≡◌, length};
 ghost use Rattle.batch.specs.Frame.{told};
 ghost use Rattle.wire.specs.Loop.{received};
 ghost use Rattle.wire.specs.Receive.{accepting};
-ghost use Rattle.wire.specs.Call.{told_received, start, calls, leaves};
+ghost use Rattle.wire.specs.Call.{of_batch, told_received, start, calls, leaves};
 
-use batch::{Answer, Receiver, Standing};
-use dec::stream::{CobsDecoder, PushAnswer};
+use batch::{Receiver, Standing};
+use dec::stream::{CobsDecoder, PushError};
+use std::error::Error;
+use std::fmt;
 
 /// Both states of a receiving side: the decoder's, and the receiver's.
 #[derive(Clone, Copy)]
@@ -17,10 +19,9 @@ pub struct Wire {
     pub receiver: Receiver,
 }
 
-/// What the decoder said of a piece that brought no frame, or the receiver of the frame it brought.
-#[derive(Clone, Copy)]
-pub enum Received {
-    More,
+/// Why a piece or the frame it ended is refused, by the decoder or by the receiver.
+#[derive(Clone, Copy, Debug, PartialEq, Eq)]
+pub enum Refusal {
     InvalidFrame { decoded: usize },
     TargetBufTooSmall,
     BadState,
@@ -31,17 +32,50 @@ pub enum Received {
     NoRoom(usize),
     BeyondClose(usize),
     Conflict(usize),
-    Open,
-    Missing(usize),
-    Complete,
-    Differs,
 }
 
-/// The states after a call, its answer, and how many bytes of the piece it took.
+impl From<batch::Refusal> for Refusal {
+    ghost from_gives = { λ refusal r. r ≡ of_batch refusal };
+
+    fn from(refusal: batch::Refusal) -> Refusal {
+        match refusal {
+            batch::Refusal::BadState => Refusal::BadState,
+            batch::Refusal::BadLength => Refusal::BadLength,
+            batch::Refusal::BadRecord(k) => Refusal::BadRecord(k),
+            batch::Refusal::Stale(k) => Refusal::Stale(k),
+            batch::Refusal::Ahead(k) => Refusal::Ahead(k),
+            batch::Refusal::NoRoom(k) => Refusal::NoRoom(k),
+            batch::Refusal::BeyondClose(k) => Refusal::BeyondClose(k),
+            batch::Refusal::Conflict(k) => Refusal::Conflict(k),
+        }
+    }
+}
+
+impl fmt::Display for Refusal {
+    fn fmt<W: fmt::Write>(&self, f: &mut fmt::Formatter<W>) -> fmt::Result {
+        match self {
+            Refusal::InvalidFrame { decoded } => write!(f, "InvalidFrame {decoded}"),
+            Refusal::TargetBufTooSmall => f.write_str("TargetBufTooSmall"),
+            Refusal::BadState => f.write_str("BadState"),
+            Refusal::BadLength => f.write_str("BadLength"),
+            Refusal::BadRecord(k) => write!(f, "BadRecord {k}"),
+            Refusal::Stale(k) => write!(f, "Stale {k}"),
+            Refusal::Ahead(k) => write!(f, "Ahead {k}"),
+            Refusal::NoRoom(k) => write!(f, "NoRoom {k}"),
+            Refusal::BeyondClose(k) => write!(f, "BeyondClose {k}"),
+            Refusal::Conflict(k) => write!(f, "Conflict {k}"),
+        }
+    }
+}
+
+impl Error for Refusal {}
+
+/// The states after a call, its answer, and how many bytes of the piece it took. The answer is how the batch stands after the
+/// frame that ended in the piece, or none if no frame ended in it.
 #[derive(Clone, Copy)]
 pub struct Receipt {
     pub next: Wire,
-    pub answer: Received,
+    pub answer: Result<Option<Standing>, Refusal>,
     pub consumed: usize,
 }
 
@@ -57,26 +91,18 @@ impl Wire {
 }
 
 // The receiver's answer.
-fn said(answer: Answer) -> Received
+fn said(answer: Result<Standing, batch::Refusal>) -> Result<Option<Standing>, Refusal>
     ensures { told_received result ≡ told answer }
 {
-    match answer {
-        Answer::BadState => Received::BadState,
-        Answer::BadLength => Received::BadLength,
-        Answer::BadRecord(k) => Received::BadRecord(k),
-        Answer::Stale(k) => Received::Stale(k),
-        Answer::Ahead(k) => Received::Ahead(k),
-        Answer::NoRoom(k) => Received::NoRoom(k),
-        Answer::BeyondClose(k) => Received::BeyondClose(k),
-        Answer::Conflict(k) => Received::Conflict(k),
-        Answer::Open => Received::Open,
-        Answer::Missing(k) => Received::Missing(k),
-        Answer::Complete => Received::Complete,
-        Answer::Differs => Received::Differs,
-    }
+    Ok(Some(answer?))
 }
 
-fn handed(decoder: CobsDecoder, receiver: Receiver, answer: Received, consumed: usize) -> Receipt
+fn handed(
+    decoder: CobsDecoder,
+    receiver: Receiver,
+    answer: Result<Option<Standing>, Refusal>,
+    consumed: usize,
+) -> Receipt
     ensures { (result.next.decoder ≡ decoder) × (result.next.receiver ≡ receiver) × (result.answer ≡ answer) × (result.consumed ≡ consumed) }
 {
     let next = Wire { decoder, receiver };
@@ -93,27 +119,29 @@ pub fn receive(wire: Wire, buffer: &mut [u8], table: &mut [u8], piece: &[u8]) ->
 {
     let decoder = wire.decoder;
     let receiver = wire.receiver;
-    let standing = batch::stands(receiver, table);
-    if let Standing::BadState = standing {
-        return handed(decoder, receiver, Received::BadState, 0);
+    if batch::stands(receiver, table).is_err() {
+        return handed(decoder, receiver, Err(Refusal::BadState), 0);
     }
     let pushed = decoder.push(buffer, piece);
     let next = pushed.next;
     let answer = pushed.answer;
     match answer {
-        PushAnswer::More => handed(next, receiver, Received::More, piece.len()),
-        PushAnswer::InvalidFrame { decoded, consumed } => {
-            handed(next, receiver, Received::InvalidFrame { decoded }, consumed)
+        Ok(None) => handed(next, receiver, Ok(None), piece.len()),
+        Ok(Some(frame)) => {
+            let accepted = batch::accept(receiver, table, &buffer[..frame.size]);
+            handed(next, accepted.next, said(accepted.answer), frame.parsed)
         }
-        PushAnswer::TargetBufTooSmall { consumed } => {
-            handed(next, receiver, Received::TargetBufTooSmall, consumed)
+        Err(PushError::InvalidFrame { decoded, consumed }) => {
+            handed(
+                next,
+                receiver,
+                Err(Refusal::InvalidFrame { decoded }),
+                consumed,
+            )
         }
-        PushAnswer::BadState => handed(next, receiver, Received::BadState, 0),
-        PushAnswer::Frame { size, parsed } => {
-            let accepted = batch::accept(receiver, table, &buffer[..size]);
-            let after = accepted.next;
-            let found = accepted.answer;
-            handed(next, after, said(found), parsed)
+        Err(PushError::TargetBufTooSmall { consumed }) => {
+            handed(next, receiver, Err(Refusal::TargetBufTooSmall), consumed)
         }
+        Err(PushError::BadState) => handed(next, receiver, Err(Refusal::BadState), 0),
     }
 }

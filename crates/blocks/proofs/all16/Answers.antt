@@ -1,23 +1,17 @@
 -- `blocks::all16` meets its contract. Assumes nothing.
+use mathlib.Core.Path.{sym, ◌∙◌}
 use lib.Dec.{eqb}
-use lib.ListN.{length}
+use Rattle.std.proofs.Common.{rules}
 use Rattle.blocks.specs.Blocks.{is_all}
-use Rattle.blocks.proofs.Blocks.{stands_yes, stands_no, sixteen-none, sixteen-some}
-use mathlib.Core.Path.{ap}
-use mathlib.Core.Bool.{not}
+use Rattle.blocks.proofs.Blocks.{sixteen-none, sixteen-some}
 use Rattle.blocks.proofs.all16.Goals as goal
 
-pub returns-then-not-stand : goal.returns-then-not-stand
+pub returns-in_default : goal.returns-in_default
 unfolding is_all
-returns-then-not-stand c =
-    let a = c.args in
-    sixteen-none (λ b. eqb b a.v) a.s.now a.at (stands_no (length a.s.now) a.at c.stand.ensures (ap not c.if-not-stand.true))
-
-pub read16-requires : goal.read16-requires
-read16-requires c = stands_yes _ _ c.stand.ensures (ap not c.if-not-stand.false)
+returns-in_default c = sixteen-none (λ b. eqb b c.args.v) c.args.s.now c.args.at (sym c.in_default.is ∙ c.read16.ensures)
 
 pub returns : goal.returns
 unfolding is_all
 returns c =
-    let a = c.args in
-    sixteen-some (λ b. eqb b a.v) a.s.now a.at (stands_yes _ _ c.stand.ensures (ap not c.if-not-stand.false)) c.read16.result c.read16.ensures c.any_unlike.result c.any_unlike.ensures
+    sixteen-some (λ b. eqb b c.args.v) c.args.s.now c.args.at c.in-Some.block (sym c.in-Some.is ∙ c.read16.ensures) _
+    (c.all.ensures (λ b. eqb b c.args.v) (λ b answer e. search rules))

@@ -1,23 +1,18 @@
 -- `blocks::clear16` meets its contract. Assumes nothing.
+use mathlib.Core.Path.{sym, ◌∙◌}
 use mathlib.Core.Bool.{not}
 use lib.Dec.{eqb}
-use lib.ListN.{length}
+use Rattle.std.proofs.Common.{rules}
 use Rattle.blocks.specs.Blocks.{is_clear}
-use Rattle.blocks.proofs.Blocks.{stands_yes, stands_no, sixteen-none, sixteen-some}
-use mathlib.Core.Path.{ap}
+use Rattle.blocks.proofs.Blocks.{sixteen-none, sixteen-some}
 use Rattle.blocks.proofs.clear16.Goals as goal
 
-pub returns-then-not-stand : goal.returns-then-not-stand
+pub returns-in_default : goal.returns-in_default
 unfolding is_clear
-returns-then-not-stand c =
-    let a = c.args in
-    sixteen-none (λ b. not (eqb b 0)) a.s.now a.at (stands_no (length a.s.now) a.at c.stand.ensures (ap not c.if-not-stand.true))
-
-pub read16-requires : goal.read16-requires
-read16-requires c = stands_yes _ _ c.stand.ensures (ap not c.if-not-stand.false)
+returns-in_default c = sixteen-none (λ b. not (eqb b 0)) c.args.s.now c.args.at (sym c.in_default.is ∙ c.read16.ensures)
 
 pub returns : goal.returns
 unfolding is_clear
 returns c =
-    let a = c.args in
-    sixteen-some (λ b. not (eqb b 0)) a.s.now a.at (stands_yes _ _ c.stand.ensures (ap not c.if-not-stand.false)) c.read16.result c.read16.ensures c.any_zero.result c.any_zero.ensures
+    sixteen-some (λ b. not (eqb b 0)) c.args.s.now c.args.at c.in-Some.block (sym c.in-Some.is ∙ c.read16.ensures) _
+    (c.all.ensures (λ b. not (eqb b 0)) (λ b answer e. search rules))

@@ -7,8 +7,5 @@ use Rattle.cobs.proofs.max_encoding_overhead.Goals as goal
 pub returns-then-n-gt-LONGEST : goal.returns-then-n-gt-LONGEST
 returns-then-n-gt-LONGEST c = overhead-long _ c.if-n-gt-LONGEST.true
 
-pub returns-then-n-eq0 : goal.returns-then-n-eq0
-returns-then-n-eq0 c = overhead-short c.args.n 1 (omega arith) (omega (arith, overhead-max c.args.n))
-
 pub returns : goal.returns
 returns c = overhead-short c.args.n _ (omega arith) (omega (arith, overhead-max c.args.n))

@@ -29,8 +29,8 @@ returns c =
     let d = c.args.dest.now in
     let a = c.args.first.now in
     let b = c.args.second.now in
-    let e = c.start_on-opening.ensures.encoder in
-    let m = c.start_on-opening.ensures.memory in
+    let e = c.start_on-opened.ensures.encoder in
+    let m = c.start_on-opened.ensures.memory in
     let h : CobsEncoder = c.push-first.new.self in
     let k : CobsEncoder = c.push-second.new.self in
     let e₁ : h.encoder ≡ next₁ d a =
@@ -41,9 +41,9 @@ returns c =
     ap (λ (x : CobsEncoder). x.encoder) c.push-second.ensures.1 ∙ ap₂ (λ (x : Encoder) (y : List ℕ). push_next x b (length y)) e₁ m₁ in
     let m₂ : k.dest.now ≡ dest₂ d a b =
     ap (λ (x : CobsEncoder). x.dest.now) c.push-second.ensures.1 ∙ ap₂ (λ (x : Encoder) (y : List ℕ). push_dest x b y) e₁ m₁ in
-    let left = buffer-after d a b (record { opened = c.start_on-opening.result.answer; first = c.push-first.result; second = c.push-second.result; finished = c.finalize-finished.result }) _ (c.finalize-finished.ensures.1 ∙ ap₂ (λ (x : Encoder) (y : List ℕ). finish_dest x y) e₂ m₂) in (
+    let left = buffer-after d a b (record { opened = c.start_on-opened.result.1; first = c.push-first.result; second = c.push-second.result; finished = c.finalize-finished.result }) _ (c.finalize-finished.ensures.1 ∙ ap₂ (λ (x : Encoder) (y : List ℕ). finish_dest x y) e₂ m₂) in (
       all_told d a b _ []
-          c.start_on-opening.ensures.answer
+          c.start_on-opened.ensures.answer
           (c.push-first.ensures.0 ∙ ap₂ (λ (x : Encoder) (y : List ℕ). push_told x a (length y)) e m)
           (c.push-second.ensures.0 ∙ ap₂ (λ (x : Encoder) (y : List ℕ). push_told x b (length y)) e₁ m₁)
           (c.finalize-finished.ensures.0 ∙ ap₂ (λ (x : Encoder) (y : List ℕ). finish_told x (length y)) e₂ m₂),

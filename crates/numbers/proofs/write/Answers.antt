@@ -1,7 +1,6 @@
 -- `numbers::write` meets its contract: the head, then the marks. Assumes nothing.
-use mathlib.Core.Path.{sym, ap, ◌∙◌}
+use mathlib.Core.Path.{ap, ◌∙◌}
 use native.Mathlib.Omega.{arith}
-use lib.ListN.{length}
 use Rattle.numbers.specs.Numbers.{read_of}
 use Rattle.numbers.proofs.Naming.{write-long, write-both, written_read, other-read}
 use Rattle.numbers.proofs.write.Goals as goal
@@ -14,8 +13,6 @@ returns-then-numbers-ne-COUNT c =
 pub returns : goal.returns
 returns c =
     let a = c.args in
-    let h = c.head_of-head in
-    let m = c.marks_of-marks in
-    let left =
-    write-both a.numbers.now a.wire (omega arith) _ h.ensures.head _ c.copy.ensures _ _ m.ensures (omega arith) c.copy-2.ensures in
-    record { memory = left; named = ap read_of left ∙ written_read a.numbers.now a.wire h.ensures.fits (ap length (sym m.ensures) ∙ omega arith) (omega arith) }
+    let h = c.head_of-head.ensures in
+    let left = write-both a.numbers.now a.wire (omega arith) _ _ _ h.head c.copy_from_slice.ensures.after c.copy_from_slice-2.ensures.after in
+    record { memory = left; named = ap read_of left ∙ written_read a.numbers.now a.wire h.fits (omega arith) (omega arith) }

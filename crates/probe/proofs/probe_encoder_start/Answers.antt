@@ -9,11 +9,10 @@ returns-then-state-ne4 c =
 
 pub returns-in_default : goal.returns-in_default
 returns-in_default c =
-    let both = start-refused _ _ _ c.if-state-ne4.false c.start.ensures.state c.in_default.is in
+    let both = start-refused _ _ _ c.if-state-ne4.false c.in_default.ensures.state in
     record { answer = both.0; next = both.1 }
 
 pub returns : goal.returns
 returns c =
-    let both = start_ready _ _ _ _ _ c.if-state-ne4.false c.start.ensures.state
-    c.in-Ready.is c.put_encoder.ensures in
+    let both = start_ready _ _ _ _ c.if-state-ne4.false c.in-Ok.ensures.state c.put_encoder.ensures in
     record { answer = both.0; next = both.1 }

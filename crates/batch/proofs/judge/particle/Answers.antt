@@ -14,4 +14,4 @@ returns-then-is_marked c = search (particle_repeat)
 pub returns : goal.returns
 returns c =
     let a = c.args in
-    particle-store a.number a.r a.index a.weight c.if-index-r.false c.limit.result c.limit.ensures c.if-index-limit.false c.is_marked.result c.is_marked.ensures c.if-is_marked.false
+    particle-store a.number a.r.now a.index a.weight c.if-index-r.false c.limit.result c.limit.ensures c.if-index-limit.false c.is_marked.result c.is_marked.ensures c.if-is_marked.false

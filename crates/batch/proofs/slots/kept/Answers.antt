@@ -1,10 +1,9 @@
 -- `batch::slots::kept` meets its contract. Assumes nothing.
 use Rattle.batch.proofs.Effects.{kept_store, kept-none}
-use borrow.Enum.Refused.{opened}
 use Rattle.batch.proofs.slots.kept.Goals as goal
 
 pub returns-in-Store : goal.returns-in-Store
 returns-in-Store c = search (kept_store)
 
 pub returns-in_default : goal.returns-in_default
-returns-in_default c = kept-none _ _ (opened c.in_default.in_default-own.keys2)
+returns-in_default c = search (kept-none)

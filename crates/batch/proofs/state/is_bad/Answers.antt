@@ -1,20 +1,10 @@
 -- `batch::state::is_bad` meets its contract. Assumes nothing.
+use mathlib.Core.Logic.{inl, inr}
 use native.Mathlib.Omega.{arith}
 use Rattle.marks.proofs.Below.{below_le}
-use Rattle.batch.proofs.Ways.{bad-table, bad-slots, bad-mark, bad-close, bad-total}
+use Rattle.batch.proofs.Ways.{bad-so, bad-table, bad-slots, bad-mark, bad-close, bad-total}
+use Rattle.batch.proofs.state.is_bad.Goals.{then-marked-below, else-marked-below}
 use Rattle.batch.proofs.state.is_bad.Goals as goal
-
-pub returns-then-r-room_for : goal.returns-then-r-room_for
-returns-then-r-room_for c = search (bad-table)
-
-pub returns-then-r-gt-MOST : goal.returns-then-r-gt-MOST
-returns-then-r-gt-MOST c = search (bad-slots)
-
-pub returns-then-marked-count_below : goal.returns-then-marked-count_below
-returns-then-marked-count_below c = search (bad-mark)
-
-pub returns-then-limit-r : goal.returns-then-limit-r
-returns-then-limit-r c = search (bad-close)
 
 pub overflow_cast-result : goal.overflow_cast-result
 overflow_cast-result c = omega (arith, below_le c.args.r.marks 4096)
@@ -22,5 +12,20 @@ overflow_cast-result c = omega (arith, below_le c.args.r.marks 4096)
 pub overflow_mul-result : goal.overflow_mul-result
 overflow_mul-result c = omega (arith, below_le c.args.r.marks 4096)
 
-pub returns : goal.returns
-returns c = search (bad-total)
+pub returns-then-limit-r : goal.returns-then-limit-r
+returns-then-limit-r c =
+    elim c.if-marked-below.branch [
+      | then-marked-below w ↦ elim w.if-marked-below.either [
+        | inl p ↦ search (bad-so (bad-table c.args.r c.args.n _ c.room_for.ensures p))
+        | inr q ↦ elim q [
+          | inl p ↦ search (bad-so (bad-slots c.args.r c.args.n _ c.room_for.ensures p.0 p.1))
+          | inr p ↦ search (bad-so (bad-mark c.args.r c.args.n _ c.room_for.ensures p.0 p.1 _ _ _ c.limit-limit.ensures c.count-marked.ensures c.count_below-below.ensures p.2))
+        ]
+      ]
+      | else-marked-below w ↦
+          let f = w.if-marked-below.false in
+          search (bad-close c.args.r c.args.n _ c.room_for.ensures f.0 f.1 _ _ _ c.limit-limit.ensures c.count-marked.ensures c.count_below-below.ensures f.2)
+    ]
+
+pub returns-else-limit-r : goal.returns-else-limit-r
+returns-else-limit-r c = search (bad-total)

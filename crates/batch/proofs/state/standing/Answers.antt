@@ -5,11 +5,11 @@ use Rattle.batch.proofs.state.standing.Goals as goal
 pub returns-in_default : goal.returns-in_default
 returns-in_default c = search (stands-open)
 
-pub returns-then-count-marked : goal.returns-then-count-marked
-returns-then-count-marked c = search (stands-missing)
+pub returns-then-close-marked : goal.returns-then-close-marked
+returns-then-close-marked c = search (stands-missing)
 
-pub returns-then-r-total : goal.returns-then-r-total
-returns-then-r-total c = search (stands-complete)
+pub returns-then-r-close : goal.returns-then-r-close
+returns-then-r-close c = search (stands-complete)
 
 pub returns : goal.returns
 returns c = search (stands-differs)

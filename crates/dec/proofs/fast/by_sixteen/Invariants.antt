@@ -5,7 +5,7 @@ use Rattle.dec.proofs.Sixteen.{Blocks}
 use Rattle.dec.proofs.fast.by_sixteen.Given as goal
 
 abbrev pub invariant-loop-dest : goal.invariant-loop-dest
-invariant-loop-dest l = Blocks l.piece l.from l.initial.dest l.to l.initial.code l.initial.left l.dest l.i l.place l.code l.left
+invariant-loop-dest l = Blocks l.piece l.from l.initial.dest l.to l.initial.group l.dest l.i l.place l.group
 
 abbrev pub decreases-loop-dest : goal.decreases-loop-dest
 decreases-loop-dest l = length l.piece - l.i

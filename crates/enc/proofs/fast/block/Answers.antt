@@ -1,5 +1,5 @@
 -- `enc::fast::block` meets its contract. Assumes nothing.
-use mathlib.Core.Path.{sym, ◌∙◌}
+use mathlib.Core.Path.{refl, sym, ◌∙◌}
 use Prim.Native.Nat.{◌+◌, ◌≤◌}
 use native.Mathlib.Omega.{arith}
 use lib.ListN.{length}
@@ -10,16 +10,15 @@ use Rattle.enc.proofs.Turns.{block-open, block-kept, block_clear, block-zeros}
 use Rattle.enc.proofs.fast.block.Goals as goal
 
 -- the sixteen bytes are copied
-pub shape_of-dest-in-Clear : goal.shape_of-dest-in-Clear
-shape_of-dest-in-Clear c = (block-kept _ _ _ _ _ c.requires.0 c.requires.1 _ c.take16-taken.ensures.memory).long
 
 pub returns-in-Clear : goal.returns-in-Clear
 returns-in-Clear c =
     let a = c.args in
-    let room_here : a.out + 16 ≤ length a.dest.now = omega (arith, room a.src.now a.i a.place a.out 0 a.dest.now c.requires.0, c.requires.0.fits, c.requires.1) in
-    let open_here : Open c.args.src.now c.args.i c.args.place c.args.out 16 c.take16-taken.new.dest = block-open _ _ _ _ _ c.requires.0 c.requires.1 _ c.take16-taken.ensures.memory in
+    let room_here : a.s.at + 16 ≤ length a.dest.now = omega (arith, room a.src.now a.s.from a.s.place a.s.at 0 a.dest.now c.requires.0, c.requires.0.fits, c.requires.1) in
+    let open_here : Open c.args.src.now c.args.s.from c.args.s.place c.args.s.at 16 c.take16-taken.new.dest = block-open _ _ _ _ _ c.requires.0 c.requires.1 _ c.take16-taken.ensures.memory in
     record {
       next = (block_clear _ _ _ _ _ open_here c.requires.2 (taken_is_clear _ _ c.requires.1 _ _ room_here (sym c.take16-taken.ensures.answer ∙ c.in-Clear.is)), c.requires.2);
+      sixteen = refl;
       kept = block-kept _ _ _ _ _ c.requires.0 c.requires.1 _ c.take16-taken.ensures.memory;
     }
 
@@ -27,43 +26,21 @@ returns-in-Clear c =
 pub overflow_sub-dest : goal.overflow_sub-dest
 overflow_sub-dest c = omega (arith, inside (block-open _ _ _ _ _ c.requires.0 c.requires.1 _ c.take16-taken.ensures.memory))
 
-pub overflow_cast-dest : goal.overflow_cast-dest
-overflow_cast-dest c = omega (arith, c.requires.2)
-
-pub bounds-dest-place : goal.bounds-dest-place
-bounds-dest-place c = omega (arith, inside (block-open _ _ _ _ _ c.requires.0 c.requires.1 _ c.take16-taken.ensures.memory))
-
-pub overflow_add-result : goal.overflow_add-result
-overflow_add-result c =
-    let a = c.args in
-    let room_here : a.out + 16 ≤ length a.dest.now = omega (arith, room a.src.now a.i a.place a.out 0 a.dest.now c.requires.0, c.requires.0.fits, c.requires.1) in
-    omega arith
-
-pub shape_of-dest-in-Zeros : goal.shape_of-dest-in-Zeros
-shape_of-dest-in-Zeros c =
-    let a = c.args in
-    let room_here : a.out + 16 ≤ length a.dest.now = omega (arith, room a.src.now a.i a.place a.out 0 a.dest.now c.requires.0, c.requires.0.fits, c.requires.1) in
-    let open_here : Open c.args.src.now c.args.i c.args.place c.args.out 16 c.take16-taken.new.dest = block-open _ _ _ _ _ c.requires.0 c.requires.1 _ c.take16-taken.ensures.memory in
-    let zeros_here : Open a.src.now (a.i + 16) (a.out + 15) (a.out + 16) 0 c.fill16.new.dest × Kept a.src.now c.take16-taken.new.dest c.fill16.new.dest =
-    block-zeros _ _ _ _ _ open_here c.requires.2
-    (taken_is_zeros _ _ c.requires.1 _ _ room_here (sym c.take16-taken.ensures.answer ∙ c.in-Zeros.is)) _ c.fill16.ensures in
-    zeros_here.1.long ∙ (block-kept _ _ _ _ _ c.requires.0 c.requires.1 _ c.take16-taken.ensures.memory).long
+pub bounds-dest-s : goal.bounds-dest-s
+bounds-dest-s c = omega (arith, inside (block-open _ _ _ _ _ c.requires.0 c.requires.1 _ c.take16-taken.ensures.memory))
 
 pub returns-in-Zeros : goal.returns-in-Zeros
 returns-in-Zeros c =
     let a = c.args in
-    let room_here : a.out + 16 ≤ length a.dest.now = omega (arith, room a.src.now a.i a.place a.out 0 a.dest.now c.requires.0, c.requires.0.fits, c.requires.1) in
-    let open_here : Open c.args.src.now c.args.i c.args.place c.args.out 16 c.take16-taken.new.dest = block-open _ _ _ _ _ c.requires.0 c.requires.1 _ c.take16-taken.ensures.memory in
-    let zeros_here : Open a.src.now (a.i + 16) (a.out + 15) (a.out + 16) 0 c.fill16.new.dest × Kept a.src.now c.take16-taken.new.dest c.fill16.new.dest =
+    let room_here : a.s.at + 16 ≤ length a.dest.now = omega (arith, room a.src.now a.s.from a.s.place a.s.at 0 a.dest.now c.requires.0, c.requires.0.fits, c.requires.1) in
+    let open_here : Open c.args.src.now c.args.s.from c.args.s.place c.args.s.at 16 c.take16-taken.new.dest = block-open _ _ _ _ _ c.requires.0 c.requires.1 _ c.take16-taken.ensures.memory in
+    let zeros_here : Open a.src.now (a.s.from + 16) (a.s.at + 15) (a.s.at + 16) 0 c.fill16.new.dest × Kept a.src.now c.take16-taken.new.dest c.fill16.new.dest =
     block-zeros _ _ _ _ _ open_here c.requires.2
     (taken_is_zeros _ _ c.requires.1 _ _ room_here (sym c.take16-taken.ensures.answer ∙ c.in-Zeros.is)) _ c.fill16.ensures in
-    record { next = (zeros_here.0, omega arith); kept = kept_on (block-kept _ _ _ _ _ c.requires.0 c.requires.1 _ c.take16-taken.ensures.memory) zeros_here.1 }
+    record { next = (zeros_here.0, omega arith); sixteen = refl; kept = kept_on (block-kept _ _ _ _ _ c.requires.0 c.requires.1 _ c.take16-taken.ensures.memory) zeros_here.1 }
 
 pub marks-requires : goal.marks-requires
 marks-requires c = (block-open _ _ _ _ _ c.requires.0 c.requires.1 _ c.take16-taken.ensures.memory, c.requires.2)
 
-pub shape_of-dest : goal.shape_of-dest
-shape_of-dest c = c.marks.ensures.kept.long ∙ (block-kept _ _ _ _ _ c.requires.0 c.requires.1 _ c.take16-taken.ensures.memory).long
-
 pub returns : goal.returns
-returns c = record { next = c.marks.ensures.next; kept = kept_on (block-kept _ _ _ _ _ c.requires.0 c.requires.1 _ c.take16-taken.ensures.memory) c.marks.ensures.kept }
+returns c = record { next = c.marks.ensures.next; sixteen = c.marks.ensures.sixteen; kept = kept_on (block-kept _ _ _ _ _ c.requires.0 c.requires.1 _ c.take16-taken.ensures.memory) c.marks.ensures.kept }

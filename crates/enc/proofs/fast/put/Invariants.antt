@@ -4,8 +4,8 @@ use lib.ListN.{length}
 use Rattle.enc.specs.Fast.{Short, Open, Kept}
 use Rattle.enc.proofs.fast.put.Given as goal
 
-abbrev pub invariant-loop-i : goal.invariant-loop-i
-invariant-loop-i l = Open l.src l.i l.place l.out 0 l.dest × Kept l.src l.initial.dest l.dest × Short l.place l.out
+abbrev pub invariant-loop-s : goal.invariant-loop-s
+invariant-loop-s l = Open l.src l.s.from l.s.place l.s.at 0 l.dest × Kept l.src l.initial.dest l.dest × Short l.s.place l.s.at
 
-abbrev pub decreases-loop-i : goal.decreases-loop-i
-decreases-loop-i l = length l.src - l.i
+abbrev pub decreases-loop-s : goal.decreases-loop-s
+decreases-loop-s l = length l.src - l.s.from

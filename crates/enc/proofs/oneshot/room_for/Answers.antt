@@ -1,17 +1,14 @@
--- `enc::oneshot::room_for` meets its contract. Assumes nothing.
+-- `enc::oneshot::room_for` meets its contract: either test of the first line is enough. Assumes nothing.
+use mathlib.Core.Path.{sym, ◌∙◌}
 use native.Mathlib.Omega.{arith}
+use borrow.Author.Tests.{leb-true}
 use Rattle.cobs.proofs.Encoding.{encode-length}
-use Rattle.enc.proofs.Forms.{fits_is, small_is}
+use Rattle.enc.proofs.Forms.{fits_is}
 use Rattle.enc.proofs.oneshot.room_for.Goals as goal
-
-pub returns-then-most-room : goal.returns-then-most-room
-returns-then-most-room c = fits_is _ _ (omega (arith, c.requires, encode-length c.args.src.now))
-
-pub measured-requires : goal.measured-requires
-measured-requires c = c.requires.0
+use Rattle.enc.proofs.oneshot.room_for.Goals.{then-most-room, else-most-room}
 
 pub returns-then-measured-room : goal.returns-then-measured-room
-returns-then-measured-room c = fits_is _ _ (omega (arith, c.measured.ensures))
-
-pub returns : goal.returns
-returns c = small_is _ _ (omega (arith, c.measured.ensures))
+returns-then-measured-room c = elim c.if-most-room.branch [
+  | then-most-room w ↦ fits_is _ _ (omega (arith, encode-length c.args.src.now))
+  | else-most-room w ↦ fits_is _ _ (omega (arith, leb-true _ _ (sym w.value-is ∙ c.if-measured-room.true)))
+]

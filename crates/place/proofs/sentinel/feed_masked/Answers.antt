@@ -7,11 +7,10 @@ use lib.Bits.{bit_xor}
 use lib.ListN.{length, get_or}
 use Rattle.cobs.specs.Code.{masked}
 use Rattle.cobs.proofs.Sentinel.{length-masked}
-use Rattle.dec.specs.Stream.{outcome}
-use Rattle.dec.specs.declared.stream.PushAnswer.{PushAnswer}
-use Rattle.dec.proofs.Answers.{not_more}
+use Rattle.dec.specs.Stream.{Answer, outcome}
+use Rattle.dec.proofs.Answers.{unlike-more, like-more}
 use Rattle.place.proofs.Measured.{get_or-masked}
-use Rattle.dec.proofs.Streamed.{streamed_none, streamed_all, streamed_more, streamed_stop}
+use Rattle.dec.proofs.Streamed.{streamed_none, streamed_more, streamed_stop}
 use Rattle.place.proofs.sentinel.feed_masked.Goals as goal
 
 -- a byte of the masked source
@@ -22,27 +21,19 @@ module _ (sentinel : ℕ) (src : List ℕ) (i : ℕ) (h : i < length src) where
   inside : i < length (masked sentinel src)
   inside = omega (arith, length-masked sentinel src)
 
-pub loop-i-init : goal.loop-i-init
-loop-i-init c = (omega arith, streamed_none _ _ _ c.new-decoder.ensures)
+pub shape_of-dest-then-ne : goal.shape_of-dest-then-ne
+shape_of-dest-then-ne c = c.feed-fed.auto.dest ∙ c.loop-b.invariant.long
 
-pub shape_of-dest-in_default : goal.shape_of-dest-in_default
-shape_of-dest-in_default c = c.feed-fed.auto.dest ∙ c.loop-i.invariant.1.long
+pub returns-then-ne : goal.returns-then-ne
+returns-then-ne c =
+    streamed_stop _ _ _ _ _ c.loop-b.invariant (inside _ _ _ c.loop-b-test.true) _ (is_byte _ _ _ c.loop-b-test.true) _ c.feed-fed.ensures.answer _ c.feed-fed.ensures.memory (unlike-more _ _ c.feed-fed.result _ c.ne.ensures c.if-ne.true)
 
-pub returns-in_default : goal.returns-in_default
-returns-in_default c =
-    streamed_stop _ _ _ _ _ c.loop-i.invariant.1 (inside _ _ _ c.loop-i-test.true) _ (is_byte _ _ _ c.loop-i-test.true) _ c.feed-fed.ensures.answer _ c.feed-fed.ensures.memory (not_more c.feed-fed.result c.in_default.not-More)
-
-pub loop-i-preserved : goal.loop-i-preserved
-loop-i-preserved c =
-    let w = c.loop-i-test.true in
+pub loop-b-preserved : goal.loop-b-preserved
+loop-b-preserved c =
+    let w = c.loop-b-test.true in
     let z = c.feed-fed in
-    let more = ap (λ (a : PushAnswer). outcome (record { next = z.result.next; answer = a })) c.in-More.is in
-    (omega arith, streamed_more _ _ _ _ _ c.loop-i.invariant.1 (inside _ _ _ w) _ (is_byte _ _ _ w) _ z.ensures.answer _ z.ensures.memory z.auto.dest _ more)
+    let more = ap (λ (a : Answer). outcome (record { next = z.result.next; answer = a })) (like-more _ _ z.result _ c.ne.ensures c.if-ne.false) in
+    streamed_more _ _ _ _ _ c.loop-b.invariant (inside _ _ _ w) _ (is_byte _ _ _ w) _ z.ensures.answer _ z.ensures.memory z.auto.dest _ more
 
-pub shape_of-dest : goal.shape_of-dest
-shape_of-dest c = c.loop-i.invariant.1.long
-
-pub returns : goal.returns
-returns c =
-    let a = c.args in
-    streamed_all _ _ _ _ _ c.loop-i.invariant.1 (omega (arith, c.loop-i-test.false, length-masked a.sentinel a.src.now))
+pub loop-b-init : goal.loop-b-init
+loop-b-init c = streamed_none _ _ _ c.new-decoder.ensures

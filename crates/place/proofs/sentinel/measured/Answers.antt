@@ -1,106 +1,52 @@
 -- `place::sentinel::measured` meets its contract: group by group, as in place. Assumes nothing.
-use mathlib.Core.Path.{◌≡◌, sym, ◌∙◌}
-use mathlib.Core.List.{List}
-use Prim.Native.Nat.{ℕ, ◌+◌, ◌-◌, ◌≤◌, ◌<◌}
+use mathlib.Core.Path.{sym, ◌∙◌}
 use native.Mathlib.Omega.{arith}
-use lib.Bits.{bit_xor}
-use lib.ListN.{length, get_or}
-use Rattle.cobs.specs.Code.{body, masked, zero_after}
-use Rattle.cobs.proofs.Bodies.{length-body}
-use Rattle.cobs.proofs.Sentinel.{length-masked}
-use Rattle.place.specs.Helpers.{group_of}
-use Rattle.place.specs.declared.place.Group.TheVariants.{Whole}
-use Rattle.place.proofs.Groups.{one_zero, says-whole, says-short}
-use Rattle.place.proofs.Measured.{Measured, measured-none, measured_empty, measured-nothing, masked-code, measured-code, measured-short, measured-last, measured-more}
+use Rattle.std.proofs.lemmas.Result.{err_from_is_err_and}
+use Rattle.place.proofs.Walks.{is_first, is-short, is_past}
+use Rattle.place.proofs.Measured.{masked-code, sized_first, sized_none, sized_code, sized_short, sized_bounds, sized_last, sized_more}
 use Rattle.place.proofs.sentinel.measured.Goals as goal
 
--- a turn: its code, a byte of the source, of whose masked body `end` is the length
-module _ (sentinel : ℕ) (src : List ℕ) (from to end : ℕ) (i : Measured (masked sentinel src) from to × (end ≡ length (body (masked sentinel src)))) where
-  abbrev code : ℕ
-  code = bit_xor (get_or src from 0) sentinel
+pub returns-in_err-walk : goal.returns-in_err-walk
+returns-in_err-walk c =
+    let p = err_from_is_err_and c.from_residual.result c.from_residual.ensures.1 in
+    rw (p.1, p.2) (sized_none _ c.in_err-walk.field-0.0 (sym c.first.ensures ∙ c.in_err-walk.was))
 
-  is_code : (from < length src) × (code ≡ get_or (masked sentinel src) from 0)
-  is_code = masked-code sentinel src _ _ i.0
+pub loop-walk-init : goal.loop-walk-init
+loop-walk-init c = sized_first _ _ (is_first _ _ (sym c.first.ensures ∙ c.in_ok-walk.was))
 
-  inside : from < end
-  inside = omega (arith, i.0.reached.within, i.1)
+pub bounds-src-walk : goal.bounds-src-walk
+bounds-src-walk c = (masked-code _ _ _ c.loop-walk.invariant).0
 
-  -- with a whole group
-  module _ (n : ℕ) (w : group_of code (end - from) ≡ Whole n) where
-    says : (code ≤ end - from) × (n ≡ code - 1)
-    says = says-whole _ _ _ w
+pub past-requires : goal.past-requires
+past-requires c =
+    let i = c.loop-walk.invariant in
+    let m = masked-code _ _ _ i in
+    record { code = sized_code _ _ i _ m.3; place = (m.1, m.2) }
 
-    fits : from + 1 + n ≤ length (body (masked sentinel src))
-    fits = omega (arith, says, inside, i.1, measured-code _ _ _ i.0 _ is_code.1)
+pub returns-in_err-walk-2 : goal.returns-in_err-walk-2
+returns-in_err-walk-2 c =
+    let i = c.loop-walk.invariant in
+    let p = err_from_is_err_and c.from_residual-in_err-walk-2.result c.from_residual-in_err-walk-2.ensures.1 in
+    let s = is-short _ _ _ (sym c.past.ensures ∙ c.in_err-walk-2.was) in
+    rw (p.1, p.2, s.1) (sized_short _ _ i _ (masked-code _ _ _ i).3 s.0)
 
-    -- the next places fit
-    bounded : (from + 1 ≤ length src) × (from + 1 + n ≤ length src) × (to + n < length src)
-    bounded =
-        let l : length (body (masked sentinel src)) ≤ length src = omega (arith, length-body (masked sentinel src), length-masked sentinel src) in
-        (omega (arith, is_code.0), omega (arith, fits), omega (arith, fits, i.0.behind))
+pub returns-then-walk : goal.returns-then-walk
+returns-then-walk c =
+    let i = c.loop-walk.invariant in
+    sized_last _ _ i _ (masked-code _ _ _ i).3 _ (is_past _ _ _ (sym c.past.ensures ∙ c.in_ok-walk-2.was)) c.if-walk.true
 
-pub returns-then-src-eq0 : goal.returns-then-src-eq0
-returns-then-src-eq0 c = let a = c.args in measured_empty a.sentinel a.src.now c.if-src-eq0.true
+pub closed-walk-requires : goal.closed-walk-requires
+closed-walk-requires c =
+    let i = c.loop-walk.invariant in
+    (sized_bounds _ _ i _ (masked-code _ _ _ i).3 _ (is_past _ _ _ (sym c.past.ensures ∙ c.in_ok-walk-2.was))).0
 
-pub returns-then-end-eq0 : goal.returns-then-end-eq0
-returns-then-end-eq0 c =
-    let a = c.args in
-    measured-nothing a.sentinel a.src.now c.if-src-eq0.false (sym c.body_end-end.ensures ∙ c.if-end-eq0.true)
+pub loop-walk-smaller : goal.loop-walk-smaller
+loop-walk-smaller c =
+    let i = c.loop-walk.invariant in
+    let m = masked-code _ _ _ i in
+    rw c.closed-walk.ensures (omega (arith, m, sized_bounds _ _ i _ m.3 _ (is_past _ _ _ (sym c.past.ensures ∙ c.in_ok-walk-2.was))))
 
-pub loop-n-init : goal.loop-n-init
-loop-n-init c =
-    let a = c.args in
-    (measured-none (masked a.sentinel a.src.now) (omega (arith, c.body_end-end.ensures, c.if-end-eq0.false)), c.body_end-end.ensures)
-
-pub bounds-src-from : goal.bounds-src-from
-bounds-src-from c = (is_code _ _ _ _ _ c.loop-n.invariant).0
-
-pub overflow_sub-end : goal.overflow_sub-end
-overflow_sub-end c = omega (arith, inside _ _ _ _ _ c.loop-n.invariant)
-
-pub group_of-group-requires : goal.group_of-group-requires
-group_of-group-requires c =
-    let i = c.loop-n.invariant in
-    measured-code _ _ _ i.0 _ (is_code _ _ _ _ _ i).1
-
-pub returns-in_default : goal.returns-in_default
-returns-in_default c =
-    let i = c.loop-n.invariant in
-    measured-short _ _ _ i.0 _ (is_code _ _ _ _ _ i).1 (rw (← i.1) (says-short _ _ (sym c.group_of-group.ensures ∙ c.in_default.is)))
-
-pub overflow_add-from : goal.overflow_add-from
-overflow_add-from c =
-    omega (arith, bounded _ _ _ _ _ c.loop-n.invariant _ (sym c.group_of-group.ensures ∙ c.in-Whole.is))
-
-pub overflow_add-from-in-loop-n : goal.overflow_add-from-in-loop-n
-overflow_add-from-in-loop-n c =
-    omega (arith, bounded _ _ _ _ _ c.loop-n.invariant _ (sym c.group_of-group.ensures ∙ c.in-Whole.is))
-
-pub overflow_add-to : goal.overflow_add-to
-overflow_add-to c =
-    omega (arith, bounded _ _ _ _ _ c.loop-n.invariant _ (sym c.group_of-group.ensures ∙ c.in-Whole.is))
-
-pub returns-then-from-end : goal.returns-then-from-end
-returns-then-from-end c =
-    let i = c.loop-n.invariant in
-    let w = sym c.group_of-group.ensures ∙ c.in-Whole.is in
-    measured-last _ _ _ i.0 _ (is_code _ _ _ _ _ i).1 _ (says _ _ _ _ _ i _ w).1 (fits _ _ _ _ _ i _ w) (c.if-from-end.true ∙ i.1)
-
-pub overflow_add-to-in-loop-n : goal.overflow_add-to-in-loop-n
-overflow_add-to-in-loop-n c =
-    let i = c.loop-n.invariant in
-    let w = sym c.group_of-group.ensures ∙ c.in-Whole.is in
-    let one : length (zero_after (code c.args.sentinel c.args.src.now c.loop-n.from c.loop-n.to c.body_end-end.result i)) ≤ 1 = one_zero _ in
-    omega (arith, bounded _ _ _ _ _ i _ w, c.zeros_after-to.ensures, one)
-
-pub loop-n-smaller : goal.loop-n-smaller
-loop-n-smaller c =
-    let i = c.loop-n.invariant in
-    omega (arith, fits _ _ _ _ _ i _ (sym c.group_of-group.ensures ∙ c.in-Whole.is), i.1)
-
-pub loop-n-preserved : goal.loop-n-preserved
-loop-n-preserved c =
-    let i = c.loop-n.invariant in
-    let w = sym c.group_of-group.ensures ∙ c.in-Whole.is in
-    let f = fits _ _ _ _ _ i _ w in
-    (measured-more _ _ _ i.0 _ (is_code _ _ _ _ _ i).1 _ (says _ _ _ _ _ i _ w).1 f (omega (arith, f, i.1, c.if-from-end.false)) _ c.zeros_after-to.ensures, i.1)
+pub loop-walk-preserved : goal.loop-walk-preserved
+loop-walk-preserved c =
+    let i = c.loop-walk.invariant in
+    rw c.closed-walk.ensures (sized_more _ _ i _ (masked-code _ _ _ i).3 _ (is_past _ _ _ (sym c.past.ensures ∙ c.in_ok-walk-2.was)) c.if-walk.false)

@@ -1,5 +1,7 @@
 -- `probe::numbers::decoder_from` meets its contract. Assumes nothing.
+use native.Mathlib.Omega.{arith}
 use borrow.Author.Tests.{lt-ltb, le-ltb}
+use Prim.Native.Nat.{◌≤◌, ◌<◌}
 use Rattle.probe.specs.Numbers.{decoder_from}
 use Rattle.probe.proofs.numbers.decoder_from.Goals as goal
 
@@ -11,10 +13,14 @@ pub returns-then-tag-gt2 : goal.returns-then-tag-gt2
 unfolding decoder_from
 returns-then-tag-gt2 c = simp (c.no_decoder-then-tag-gt2.ensures, le-ltb _ _ c.if-skip-gt1.false, lt-ltb _ _ c.if-tag-gt2.true)
 
-pub returns-then-left-gt255 : goal.returns-then-left-gt255
+pub returns-in_default : goal.returns-in_default
 unfolding decoder_from
-returns-then-left-gt255 c = simp (c.no_decoder-then-left-gt255.ensures, le-ltb _ _ c.if-skip-gt1.false, le-ltb _ _ c.if-tag-gt2.false, lt-ltb _ _ c.if-left-gt255.true)
+returns-in_default c =
+    let l : 255 < c.args.left = omega (arith, c.in_default.ensures) in
+    simp (c.no_decoder-in_default.ensures, le-ltb _ _ c.if-skip-gt1.false, le-ltb _ _ c.if-tag-gt2.false, lt-ltb _ _ l)
 
 pub returns : goal.returns
 unfolding decoder_from
-returns c = simp (c.state_from.ensures, le-ltb _ _ c.if-skip-gt1.false, le-ltb _ _ c.if-tag-gt2.false, le-ltb _ _ c.if-left-gt255.false)
+returns c =
+    let l : c.args.left ≤ 255 = omega (arith, c.in-Ok.ensures.0) in
+    simp (c.state_from.ensures, c.in-Ok.ensures.1, le-ltb _ _ c.if-skip-gt1.false, le-ltb _ _ c.if-tag-gt2.false, le-ltb _ _ l)

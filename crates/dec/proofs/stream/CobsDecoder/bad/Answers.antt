@@ -5,8 +5,8 @@ use Rattle.dec.proofs.stream.CobsDecoder.bad.Goals as goal
 pub returns-then-room-self : goal.returns-then-room-self
 returns-then-room-self c = search (bad-beyond)
 
-pub returns-then-is_idle : goal.returns-then-is_idle
-returns-then-is_idle c = search (bad-idle)
+pub returns-in-Idle : goal.returns-in-Idle
+returns-in-Idle c = search (bad-idle)
 
-pub returns : goal.returns
-returns c = search (bad-open)
+pub returns-in_default : goal.returns-in_default
+returns-in_default c = search (bad-open)

@@ -8,9 +8,8 @@ pub returns-then-is_bad : goal.returns-then-is_bad
 unfolding state_push state_push_told
 returns-then-is_bad c = let q = sym c.is_bad.ensures ∙ c.if-is_bad.true in record { state = simp q; answer = simp q }
 
-pub stepped-requires : goal.stepped-requires
-stepped-requires c = sym c.is_bad.ensures ∙ c.if-is_bad.false
-
 pub returns : goal.returns
 unfolding state_push state_push_told
-returns c = let q = sym c.is_bad.ensures ∙ c.if-is_bad.false in record { state = rw q c.stepped.ensures; answer = step-told _ _ q _ c.stepped.ensures }
+returns c =
+    let q = sym c.is_bad.ensures ∙ c.if-is_bad.false in
+    record { state = rw (q, c.step-asked.ensures); answer = step-told _ _ q _ c.step-asked.ensures }

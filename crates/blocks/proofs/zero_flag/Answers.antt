@@ -1,9 +1,0 @@
--- `blocks::zero_flag` meets its contract. Assumes nothing.
-use borrow.Author.Tests.{eq-eqb, ne_eqb}
-use Rattle.blocks.proofs.zero_flag.Goals as goal
-
-pub returns-then-b-eq0 : goal.returns-then-b-eq0
-returns-then-b-eq0 c = simp (eq-eqb _ 0 c.if-b-eq0.true)
-
-pub returns-else-b-eq0 : goal.returns-else-b-eq0
-returns-else-b-eq0 c = simp (ne_eqb _ 0 c.if-b-eq0.false)
