@@ -1,5 +1,5 @@
 -- A frame, one law for each way through `accept`. Assumes nothing.
-use Rattle.std.specs.Prelude.{Result, Ok, Err, is_err, if◌then◌else◌}
+use Rattle.std.specs.Prelude.{Result, Ok, Err, is_err, ⊤, if◌then◌else◌}
 use mathlib.Core.Path.{◌≡◌, refl, sym, ap, ◌∙◌}
 use mathlib.Core.Bool.{Bool, true, false, true≢false}
 use mathlib.Core.List.{List}
@@ -40,7 +40,7 @@ module _ (r : Receiver) (t f : List ℕ) (b : Bool) (eb : b ≡ is_bad r (length
 abbrev pub Accepts : Receiver → (t f : List ℕ) → Result Standing Refusal → Receiver → (u : List ℕ) → Type 0
 Accepts r t f a n u = (told a ≡ accept_told r t f) × ((n ≡ accept_next r t f) × (u ≡ accept_table r t f))
 
-module _ (r : Receiver) (t f : List ℕ) (x : Result (Unit {0}) Refusal) (n : Receiver) (u : List ℕ) (z : Leaves (outcome r t f) r t x n u) where
+module _ (r : Receiver) (t f : List ℕ) (x : Result ⊤ Refusal) (n : Receiver) (u : List ℕ) (z : Leaves (outcome r t f) r t x n u) where
   as_taken : (o : Outcome) → outcome r t f ≡ o → x ≡ Ok tt → (s : Standing) → told_stand s ≡ stand_told n → Accepts r t f (Ok s) n u
   unfolding accept_told accept_next accept_table
   as_taken (refused a) e q s h = absurd (true≢false (sym (ap is_err (sym q ∙ z.0 ∙ ap answer_by e))))
@@ -54,7 +54,7 @@ module _ (r : Receiver) (t f : List ℕ) (x : Result (Unit {0}) Refusal) (n : Re
   as_refused : (o : Outcome) → outcome r t f ≡ o → (a : Refusal) → x ≡ Err a → Accepts r t f (Err a) r u
   unfolding accept_told accept_next accept_table
   as_refused (refused b) e a q =
-      let k : ◌≡◌ {A = Result (Unit {0}) Refusal} (Err a) (Err b) = sym q ∙ z.0 ∙ ap answer_by e in
+      let k : ◌≡◌ {A = Result ⊤ Refusal} (Err a) (Err b) = sym q ∙ z.0 ∙ ap answer_by e in
       let same : a ≡ b = cc in
       rw e (ap told_refusal same, (refl, z.1.1 ∙ ap (table_after t) e))
   as_refused (taken m w) e a q = absurd (true≢false (ap is_err (sym q ∙ z.0 ∙ ap answer_by e)))

@@ -1,5 +1,5 @@
 -- The records of a frame from some place on, one law for each way through `take`. Assumes nothing.
-use Rattle.std.specs.Prelude.{Result, Ok, Err, is_err, OnOk}
+use Rattle.std.specs.Prelude.{Result, Ok, Err, is_err, OnOk, ⊤}
 use mathlib.Core.Path.{◌≡◌, refl, sym, ap, ap₂, ◌∙◌}
 use mathlib.Core.Bool.{true, false, true≢false}
 use mathlib.Core.List.{List}
@@ -59,7 +59,7 @@ module _ (f : List ℕ) (at : ℕ) (r : Receiver) (t : List ℕ) (h : at < lengt
 -- ---- what is handed back
 
 -- An answer, a state and a table that an outcome leaves, from a state and a table before it. The state of a refusal is any.
-abbrev pub Leaves : Outcome → Receiver → (t : List ℕ) → Result (Unit {0}) Refusal → Receiver → (u : List ℕ) → Type 0
+abbrev pub Leaves : Outcome → Receiver → (t : List ℕ) → Result ⊤ Refusal → Receiver → (u : List ℕ) → Type 0
 Leaves o r t x n u = (x ≡ answer_by o) × (OnOk x (n ≡ next_after r o) × (u ≡ table_after t o))
 
 pub leaves-taken : (o : Outcome) (r : Receiver) (t : List ℕ) → o ≡ taken r t → Leaves o r t (Ok tt) r t
@@ -69,14 +69,14 @@ pub leaves-refused : (o : Outcome) (r n : Receiver) (t : List ℕ) (a : Refusal)
 leaves-refused o r n t a e = rw e (refl, (tt, refl))
 
 -- the rest was refused: what the record was stored over is put back
-rest-refused : (p : Outcome) (r q n : Receiver) (t s : List ℕ) (e : Effect) (x : Result (Unit {0}) Refusal) (u b w : List ℕ) → is_err x ≡ true
+rest-refused : (p : Outcome) (r q n : Receiver) (t s : List ℕ) (e : Effect) (x : Result ⊤ Refusal) (u b w : List ℕ) → is_err x ≡ true
     → Leaves p q (stored e t s) x n u → b ≡ kept_for e t → w ≡ stored e u b → Leaves p r t x n w
 rest-refused (refused a) r q n t s e x u b w h z eb ew =
     (z.0, (rw z.0 tt, ew ∙ ap₂ (stored e) z.1.1 eb ∙ undone e t s))
 rest-refused (taken m v) r q n t s e x u b w h z eb ew = absurd (true≢false (sym h ∙ ap is_err z.0))
 
 -- or taken
-rest-taken : (p : Outcome) (r q n : Receiver) (t t₁ : List ℕ) (x : Result (Unit {0}) Refusal) (u : List ℕ) → is_err x ≡ false
+rest-taken : (p : Outcome) (r q n : Receiver) (t t₁ : List ℕ) (x : Result ⊤ Refusal) (u : List ℕ) → is_err x ≡ false
     → Leaves p q t₁ x n u → Leaves p r t x n u
 rest-taken (refused a) r q n t t₁ x u h z = absurd (true≢false (sym (ap is_err z.0) ∙ h))
 rest-taken (taken m v) r q n t t₁ x u h z = z
@@ -92,7 +92,7 @@ module _ (r : Receiver) (t f : List ℕ) (at : ℕ) (h : at < length f) (m : at 
 
   -- The rest, from the state and the table as the code has them.
   module _ (y : Receiver) (w : List ℕ) (ey : y ≡ after e r) (ew : w ≡ stored e t (drop at f))
-      (x : Result (Unit {0}) Refusal) (n : Receiver) (u : List ℕ) (z : Leaves (rest f (at + 16) y w) y w x n u) where
+      (x : Result ⊤ Refusal) (n : Receiver) (u : List ℕ) (z : Leaves (rest f (at + 16) y w) y w x n u) where
     leaves : Leaves (rest f (at + 16) (after e r) (stored e t (drop at f))) (after e r) (stored e t (drop at f)) x n u
     leaves = rw (← ey, ← ew) z
 

@@ -157,9 +157,6 @@ module _ (k : ℕ) (r : Receiver) (c : held.Close) where
 
 -- ---- a record
 
-pub batch-particle : (item : Record) (b i : ℕ) (x y z : ℤ) (w : ℕ) → item ≡ kind.Particle b i x y z w → b ≡ batch_in item
-batch-particle item b i x y z w e = simp e
-
 pub ours-particle : (k : ℕ) (r : Receiver) (item : Record) (b i : ℕ) (x y z : ℤ) (w : ℕ) → item ≡ kind.Particle b i x y z w
     → {v : Verdict} → v ≡ on_particle k r i w → v ≡ on_ours k r item
 ours-particle k r item b i x y z w e q = simp e q

@@ -1,6 +1,6 @@
 -- What the private helpers promise: a frame from some place on, and what is kept so that a store can be undone.
 -- No public promise cites it. Assumes nothing.
-use Rattle.std.specs.Prelude.{List, Result, Ok, Err, ℕ, ◌-◌, ◌/◌, length, drop, replicate}
+use Rattle.std.specs.Prelude.{List, ⊤, Result, Ok, Err, ℕ, ◌-◌, ◌/◌, length, drop, replicate}
 use Rattle.blocks.specs.Blocks.{copied}
 use Rattle.batch.specs.State.{slot_at}
 use Rattle.batch.specs.Frame.{Outcome, refused, taken, take_all}
@@ -20,6 +20,6 @@ abbrev pub rest : (frame : List ℕ) (at : ℕ) → Receiver → (table : List �
 rest frame at r table = take_all ((length frame - at) / 16) (at / 16) r table (drop at frame)
 
 -- What is handed on: that all were taken, or the refusal.
-abbrev pub answer_by : Outcome → Result (Unit {0}) Refusal
+abbrev pub answer_by : Outcome → Result ⊤ Refusal
 answer_by (refused refusal) = Err refusal
 answer_by (taken r table) = Ok tt

@@ -15,71 +15,72 @@ pub enum Effect {
     Close(Close),
 }
 
-// The record at `at`.
-pub(crate) fn judge(r: &Receiver, frame: &[u8], at: usize) -> Result<Effect, Refusal>
-    ensures { result ≡ on_read (at / 16) r.now (read_of 0 (drop at frame.now)) }
-{
-    let number = at / SIZE;
-    let Ok(item) = record::read(frame, at) else {
-        return Err(Refusal::BadRecord(number));
-    };
-    match record::class_of(batch_in(item), r.batch) {
-        Class::Ours => ours(r, number, item),
-        Class::Ahead => Err(Refusal::Ahead(number)),
-        Class::Stale => Err(Refusal::Stale(number)),
-    }
-}
-
 fn batch_in(item: Record) -> u16
     ensures { result ≡ batch_in item }
 {
     match item {
-        Record::Particle { batch, .. } => batch,
-        Record::Close { batch, .. } => batch,
+        Record::Particle { batch, .. } | Record::Close { batch, .. } => batch,
     }
 }
 
-fn ours(r: &Receiver, number: usize, item: Record) -> Result<Effect, Refusal>
-    ensures { result ≡ on_ours number r.now item }
-{
-    match item {
-        Record::Particle { index, weight, .. } => particle(r, number, index, weight),
-        Record::Close { count, total, .. } => {
-            let count = count as usize;
-            close(r, number, Close { count, total })
+impl Receiver {
+    // The record at `at`.
+    pub(crate) fn judge(&self, frame: &[u8], at: usize) -> Result<Effect, Refusal>
+        ensures { result ≡ on_read (at / 16) self.now (read_of 0 (drop at frame.now)) }
+    {
+        let number = at / SIZE;
+        let Ok(item) = record::read(frame, at) else {
+            return Err(Refusal::BadRecord(number));
+        };
+        match record::class_of(batch_in(item), self.batch) {
+            Class::Ours => self.ours(number, item),
+            Class::Ahead => Err(Refusal::Ahead(number)),
+            Class::Stale => Err(Refusal::Stale(number)),
         }
     }
-}
 
-fn particle(r: &Receiver, number: usize, index: u16, weight: u32) -> Result<Effect, Refusal>
-    ensures { result ≡ on_particle number r.now index weight }
-{
-    if index as usize >= r.slots {
-        return Err(Refusal::NoRoom(number));
+    fn ours(&self, number: usize, item: Record) -> Result<Effect, Refusal>
+        ensures { result ≡ on_ours number self.now item }
+    {
+        match item {
+            Record::Particle { index, weight, .. } => self.particle(number, index, weight),
+            Record::Close { count, total, .. } => {
+                let count = count as usize;
+                self.close(number, Close { count, total })
+            }
+        }
     }
-    if index as usize >= crate::state::limit(r) {
-        return Err(Refusal::BeyondClose(number));
-    }
-    if marks::is_marked(&r.marks, index as usize) {
-        return Ok(Effect::Repeat);
-    }
-    Ok(Effect::Store { index, weight })
-}
 
-fn close(r: &Receiver, number: usize, close: Close) -> Result<Effect, Refusal>
-    ensures { result ≡ on_close number r.now close }
-{
-    if close.count > r.slots {
-        return Err(Refusal::NoRoom(number));
+    fn particle(&self, number: usize, index: u16, weight: u32) -> Result<Effect, Refusal>
+        ensures { result ≡ on_particle number self.now index weight }
+    {
+        if index as usize >= self.slots {
+            return Err(Refusal::NoRoom(number));
+        }
+        if index as usize >= self.limit() {
+            return Err(Refusal::BeyondClose(number));
+        }
+        if marks::is_marked(&self.marks, index as usize) {
+            return Ok(Effect::Repeat);
+        }
+        Ok(Effect::Store { index, weight })
     }
-    if let Some(first) = r.close {
-        if first != close {
+
+    fn close(&self, number: usize, close: Close) -> Result<Effect, Refusal>
+        ensures { result ≡ on_close number self.now close }
+    {
+        if close.count > self.slots {
+            return Err(Refusal::NoRoom(number));
+        }
+        if let Some(first) = self.close {
+            if first != close {
+                return Err(Refusal::Conflict(number));
+            }
+            return Ok(Effect::Repeat);
+        }
+        if marks::count(&self.marks) > marks::count_below(&self.marks, close.count) {
             return Err(Refusal::Conflict(number));
         }
-        return Ok(Effect::Repeat);
+        Ok(Effect::Close(close))
     }
-    if marks::count(&r.marks) > marks::count_below(&r.marks, close.count) {
-        return Err(Refusal::Conflict(number));
-    }
-    Ok(Effect::Close(close))
 }

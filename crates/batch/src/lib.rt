@@ -12,14 +12,15 @@ ghost use Rattle.batch.specs.Frame.{told, outcome, next_after, table_after, acce
 ghost use Rattle.batch.specs.Helpers.{rest, answer_by};
 
 use cobs::refusals::BadState;
+use marks::Marks;
 use record::frame::SIZE;
 use std::error::Error;
 use std::fmt;
 
 /// One batch of one board. A mark says that the particle of that index is in its slot.
-#[derive(Clone, Copy)]
+#[derive(Clone, Copy, Debug, PartialEq, Eq)]
 pub struct Receiver {
-    pub marks: [u64; 64],
+    pub marks: Marks,
     pub total: u32,
     pub close: Option<Close>,
     pub slots: usize,
@@ -57,7 +58,7 @@ pub enum Refusal {
 
 /// The state after a frame, and its answer: how the batch stands then, or the refusal. Beside it, since states go out by value,
 /// after a refusal too.
-#[derive(Clone, Copy)]
+#[derive(Clone, Copy, Debug, PartialEq, Eq)]
 pub struct Accepted {
     pub next: Receiver,
     pub answer: Result<Standing, Refusal>,
@@ -114,7 +115,7 @@ pub fn accept(receiver: Receiver, table: &mut [u8], frame: &[u8]) -> Accepted
     match whole(&mut next, table, frame) {
         Ok(()) => Accepted {
             next,
-            answer: Ok(state::standing(&next)),
+            answer: Ok(next.standing()),
         },
         Err(refusal) => Accepted {
             next: receiver,
@@ -127,10 +128,10 @@ pub fn accept(receiver: Receiver, table: &mut [u8], frame: &[u8]) -> Accepted
 pub fn stands(receiver: Receiver, table: &[u8]) -> Result<Standing, BadState>
     ensures { told_standing result ≡ stands_told receiver (length table.now) }
 {
-    if state::is_bad(receiver, table.len()) {
+    if receiver.is_bad(table.len()) {
         return Err(BadState);
     }
-    Ok(state::standing(&receiver))
+    Ok(receiver.standing())
 }
 
 // The whole frame. The state is left as it is after the records; after a refusal it is of no use.
@@ -139,7 +140,7 @@ fn whole(receiver: &mut Receiver, table: &mut [u8], frame: &[u8]) -> Result<(), 
     ensures state { OnOk result (receiver.new ≡ next_after receiver.old (outcome receiver.old table.old frame.now)) }
     ensures memory { table.new ≡ table_after table.old (outcome receiver.old table.old frame.now) }
 {
-    if state::is_bad(*receiver, table.len()) {
+    if receiver.is_bad(table.len()) {
         return Err(Refusal::BadState);
     }
     if record::frame::is_bad_length(frame.len()) {
@@ -150,7 +151,8 @@ fn whole(receiver: &mut Receiver, table: &mut [u8], frame: &[u8]) -> Result<(), 
 
 // The records from `at` on. A level keeps the 16 bytes that its record's particle is stored over, and puts them back if a
 // later record is refused; a frame has 15 levels at most. It calls itself for that, no loop: without a heap they stand on the
-// stack. The frame goes down whole with a place, not in chunks, since `record::read` and `copy16` take it so.
+// stack. The frame goes down whole with a place, not in chunks: the record's number is
+// `at / 16`, and the laws speak of the rest of the frame from `at`.
 fn take(receiver: &mut Receiver, table: &mut [u8], frame: &[u8], at: usize) -> Result<(), Refusal>
     requires table_value { (is_bad receiver.old (length table.old) ≡ false) × (length receiver.old.marks ≡ 64) }
     requires at_in_bounds { (at ≤ length frame.now) × (at % 16 ≡ 0) × (length frame.now % 16 ≡ 0) }
@@ -161,10 +163,10 @@ fn take(receiver: &mut Receiver, table: &mut [u8], frame: &[u8], at: usize) -> R
     if at == frame.len() {
         return Ok(());
     }
-    let effect = judge::judge(receiver, frame, at)?;
+    let effect = receiver.judge(frame, at)?;
     let kept = slots::kept(effect, table);
     slots::store(effect, table, frame, at);
-    state::apply(receiver, effect);
+    receiver.apply(effect);
     let rest = take(receiver, table, frame, at + SIZE);
     if rest.is_err() {
         slots::store(effect, table, &kept, 0);

@@ -6,56 +6,58 @@ ghost use Rattle.batch.specs.Verdict.{after};
 use crate::judge::Effect;
 use crate::{Receiver, Standing};
 
-// No mark may stand here or above: the slot count, or a taken close's count.
-pub(crate) fn limit(r: &Receiver) -> usize
-    ensures { result ≡ limit r.now }
-{
-    match r.close {
-        None => r.slots,
-        Some(close) => close.count,
-    }
-}
-
-// By value: of a reference the proof of the chain does not close.
-pub(crate) fn is_bad(r: Receiver, n: usize) -> bool
-    ensures { result ≡ is_bad r n }
-{
-    let limit = limit(&r);
-    let marked = marks::count(&r.marks);
-    let below = marks::count_below(&r.marks, limit);
-    r.slots > crate::slots::room_for(n)
-        || r.slots > crate::slots::MOST
-        || marked > below
-        || limit > r.slots
-        || r.total > 1_000_000 * (marked as u32)
-}
-
-pub(crate) fn standing(r: &Receiver) -> Standing
-    ensures { told_stand result ≡ stand_told r.now }
-{
-    let Some(close) = r.close else {
-        return Standing::Open;
-    };
-    let marked = marks::count(&r.marks);
-    if close.count > marked {
-        return Standing::Missing(close.count - marked);
-    }
-    if r.total == close.total {
-        return Standing::Complete;
-    }
-    Standing::Differs
-}
-
-pub(crate) fn apply(r: &mut Receiver, effect: Effect)
-    requires { (after effect r.old).total < 4294967296 }
-    ensures { r.new ≡ after effect r.old }
-{
-    match effect {
-        Effect::Repeat => {}
-        Effect::Store { index, weight } => {
-            marks::mark(&mut r.marks, index as usize);
-            r.total += weight;
+impl Receiver {
+    // No mark may stand here or above: the slot count, or a taken close's count.
+    pub(crate) fn limit(&self) -> usize
+        ensures { result ≡ limit self.now }
+    {
+        match self.close {
+            None => self.slots,
+            Some(close) => close.count,
         }
-        Effect::Close(close) => r.close = Some(close),
+    }
+
+    // By value: tried by reference, and the proof of the chain does not close.
+    pub(crate) fn is_bad(self, n: usize) -> bool
+        ensures { result ≡ is_bad self n }
+    {
+        let limit = self.limit();
+        let marked = marks::count(&self.marks);
+        let below = marks::count_below(&self.marks, limit);
+        self.slots > crate::slots::room_for(n)
+            || self.slots > crate::slots::MOST
+            || marked > below
+            || limit > self.slots
+            || self.total > record::MOST_WEIGHT * (marked as u32)
+    }
+
+    pub(crate) fn standing(&self) -> Standing
+        ensures { told_stand result ≡ stand_told self.now }
+    {
+        let Some(close) = self.close else {
+            return Standing::Open;
+        };
+        let marked = marks::count(&self.marks);
+        if close.count > marked {
+            return Standing::Missing(close.count - marked);
+        }
+        if self.total == close.total {
+            return Standing::Complete;
+        }
+        Standing::Differs
+    }
+
+    pub(crate) fn apply(&mut self, effect: Effect)
+        requires { (after effect self.old).total < 4294967296 }
+        ensures { self.new ≡ after effect self.old }
+    {
+        match effect {
+            Effect::Repeat => {}
+            Effect::Store { index, weight } => {
+                marks::mark(&mut self.marks, index as usize);
+                self.total += weight;
+            }
+            Effect::Close(close) => self.close = Some(close),
+        }
     }
 }

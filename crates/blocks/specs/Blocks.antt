@@ -14,10 +14,6 @@ abbrev pub each : (p : ℕ → Bool) → List ℕ → Bool
 each p [] = true
 each p (b ∷ s) = p b && each p s
 
--- 0 where a test holds, 1 where it fails.
-abbrev pub flag : Bool → ℕ
-flag t = if t then 0 else 1
-
 -- Sixteen bytes stand at `at`, and p holds of each.
 abbrev pub sixteen : (p : ℕ → Bool) → List ℕ → (at : ℕ) → Bool
 sixteen p s at = if stands (length s) at then each p (take 16 (drop at s)) else false

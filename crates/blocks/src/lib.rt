@@ -8,13 +8,27 @@ ghost use Rattle.blocks.specs.Blocks.{stands, each, is_clear, is_all, copied, ta
 ghost use Rattle.cobs.specs.Code.{masked};
 ghost use Rattle.blocks.specs.Helpers.{block_at, moved, Gives};
 
-/// What sixteen bytes are: not there, none of them zero, all of them zero, or some of each.
+use std::fmt;
+
+/// What sixteen bytes are: not there, none of them zero, all of them zero, or some of each. No Option of three kinds: known_bytes
+/// and 01 name four answers, and the caller, the encoder, asks for two of them.
 #[derive(Clone, Copy, Debug, PartialEq, Eq)]
 pub enum Taken {
     Nothing,
     Clear,
     Zeros,
     Mixed,
+}
+
+impl fmt::Display for Taken {
+    fn fmt<W: fmt::Write>(&self, f: &mut fmt::Formatter<W>) -> fmt::Result {
+        f.write_str(match self {
+            Taken::Nothing => "Nothing",
+            Taken::Clear => "Clear",
+            Taken::Zeros => "Zeros",
+            Taken::Mixed => "Mixed",
+        })
+    }
 }
 
 // Whether sixteen bytes stand at `at` among n.
@@ -105,7 +119,7 @@ pub fn clear16(s: &[u8], at: usize) -> bool
     all(block, |b| b != 0)
 }
 
-/// Sixteen bytes stand at `at`, and each is v.
+/// Sixteen bytes stand at `at`, and each is v. A call of its own beside `clear16`, whose promise is another; what they share is `all`.
 pub fn all16(s: &[u8], at: usize, v: u8) -> bool
     ensures { result ≡ is_all v s.now at }
 {

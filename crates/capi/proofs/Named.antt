@@ -1,16 +1,20 @@
 -- The workstation's calls, by what the numbers name. Assumes nothing.
 use mathlib.Core.Path.{◌≡◌, refl, sym, ap, ◌∙◌}
 use mathlib.Core.Logic.{◌≢◌}
-use mathlib.Core.Bool.{true, true≢false}
+use mathlib.Core.Bool.{Bool, true, true≢false}
 use mathlib.Core.List.{List}
 use Prim.Native.Nat.{ℕ}
 use lib.Dec.{eqb}
 use lib.ListN.{length}
 use borrow.Author.Tests.{eq-eqb, ne_eqb}
-use Rattle.std.specs.Prelude.{Some, None}
+use Rattle.std.specs.Prelude.{Some, None, Ok, Err, Result, if◌then◌else◌}
+use Rattle.std.specs.Result.{is_ok}
 use Rattle.cobs.specs.Answers.{Told, tell}
 use Rattle.dec.proofs.Cases.{by_bool}
-use Rattle.batch.specs.State.{stands_told}
+use Rattle.cobs.specs.declared.refusals.BadState.{BadState}
+use Rattle.batch.specs.State.{told_standing, stands_told}
+use Rattle.batch.specs.declared.Standing.{Standing}
+use Rattle.batch.specs.declared.Standing.TheVariants as stand
 use Rattle.wire.specs.Again.{Received}
 use Rattle.wire.specs.Loop.{Side, received}
 use Rattle.wire.specs.Receive.{End, accepting}
@@ -33,7 +37,9 @@ module _ (ns : List ℕ) (batch n : ℕ) where
   unfolding open_told open_state open_found
   open_done h w e left k named = (rw (eq-eqb (length ns) 74 h) refl, (k ∙ ap (written_to ns) e, named ∙ ap (read_back ns) e))
 
--- ---- the states that the numbers name
+-- A total stands beside an answer that is no BadState.
+ok-total : (total : ℕ) (a : Result Standing BadState) → (if is_ok a then total else 0) ≡ (if eqb (told_standing a).number 6 then 0 else total)
+ok-total total = elim [ Ok stand.Open ↦ refl | Ok (stand.Missing k) ↦ refl | Ok stand.Complete ↦ refl | Ok stand.Differs ↦ refl | Err e ↦ refl ]
 
 -- ---- receive
 
@@ -82,18 +88,12 @@ module _ (ns : List ℕ) where
     unfolding state_told state_total
     stands-none e = rw (none_by ns e) (refl, refl)
 
-    module _ (w : Wire) (named : Some w ≡ read_of ns) (number missing : ℕ) (stood : Told) (told : tell number missing 0 ≡ stood) (stands : stood ≡ stands_told w.receiver n) where
-      state-told : tell number missing 0 ≡ state_told ns n
+    module _ (w : Wire) (named : Some w ≡ read_of ns) (a : Result Standing BadState) (stands : told_standing a ≡ stands_told w.receiver n) where
+      pub stands-some : told_standing a ≡ state_told ns n
       unfolding state_told
-      state-told = told ∙ stands ∙ ap (λ (v : Wire). stands_told v.receiver n) (named_by ns w named).1 ∙ rw (named_by ns w named).0 refl
+      stands-some = stands ∙ ap (λ (v : Wire). stands_told v.receiver n) (named_by ns w named).1 ∙ rw (named_by ns w named).0 refl
 
-      pub stands_good : number ≢ 6 → (tell number missing 0 ≡ state_told ns n) × (w.receiver.total ≡ state_total ns n)
+      pub stands-total : (ok : Bool) → ok ≡ is_ok a → (if ok then w.receiver.total else 0) ≡ state_total ns n
       unfolding state_total
-      stands_good h = (
-        state-told,
-        rw (← state-told, ne_eqb number 6 h) (ap (λ (v : Wire). v.receiver.total) (named_by ns w named).1),
-      )
-
-      pub stands-bad : number ≡ 6 → (tell number missing 0 ≡ state_told ns n) × (0 ≡ state_total ns n)
-      unfolding state_total
-      stands-bad h = (state-told, rw (← state-told, eq-eqb number 6 h) refl)
+      stands-total ok e =
+          rw (e, ← stands-some, ← ap (λ (v : Wire). v.receiver.total) (named_by ns w named).1) (ok-total w.receiver.total a)

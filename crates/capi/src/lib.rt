@@ -1,5 +1,6 @@
 //! The calls as C has them: here the one-shot ones, for firmware and the comparison; in `stream` the workstation's. `capi_c` hands them
-//! out over the C convention. A call answers 01's number, 0 for done, and puts the answer's values behind its out-parameters, 0 where there is none.
+//! out over the C convention. A call answers 01's number, 0 for done, and puts the answer's values behind its out-parameters, 0 where there is none:
+//! C has no `Result`.
 #![tactic(auto)]
 
 pub mod stream;

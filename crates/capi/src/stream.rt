@@ -8,6 +8,9 @@ ghost use Rattle.capi.specs.Stream.{open_told, open_state, open_found, receive_t
 use crate::told::{put, put_one};
 use wire::Wire;
 
+/// 01's number of BadState.
+const BAD_STATE: u8 = 6;
+
 /// The encoding of a message of 1 to 15 records, and one zero.
 pub fn laksovuth_write_frame(
     message: &[u8],
@@ -35,7 +38,7 @@ pub fn laksovuth_open(state: &mut [u64], batch: u16, table: &[u8]) -> u8
     ensures named { read_of state.new ≡ open_found state.old batch (length table.now) }
 {
     if state.len() != numbers::COUNT {
-        return 6;
+        return BAD_STATE;
     }
     numbers::write(Wire::open(batch, table), state);
     0
@@ -63,7 +66,7 @@ pub fn laksovuth_receive(
         *value = 0;
         *at = 0;
         *consumed = 0;
-        return 6;
+        return BAD_STATE;
     };
     let receipt = wire::receive(states, buffer, table, piece);
     numbers::write(receipt.next, state);
@@ -79,12 +82,12 @@ pub fn laksovuth_stands(state: &[u64], table: &[u8], missing: &mut usize, total:
     *total = 0;
     let Some(states) = numbers::read(state) else {
         *missing = 0;
-        return 6;
+        return BAD_STATE;
     };
     let receiver = states.receiver;
-    let number = put_one(batch::stands(receiver, table), missing);
-    if number != 6 {
+    let stands = batch::stands(receiver, table);
+    if stands.is_ok() {
         *total = receiver.total as u64;
     }
-    number
+    put_one(stands, missing)
 }

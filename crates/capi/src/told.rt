@@ -89,6 +89,19 @@ fn of_standing(standing: Standing) -> Telling
     }
 }
 
+// The same refusals of a frame and of a size.
+fn of_decode_error(refusal: DecodeError) -> Telling
+    ensures frame { telling result ≡ decoded_told (Err refusal) }
+    ensures size { telling result ≡ with_told (Err refusal) }
+{
+    match refusal {
+        DecodeError::EmptyFrame => tells(1, 0, 0),
+        DecodeError::InvalidFrame { decoded } => tells(2, decoded, 0),
+        DecodeError::TargetBufTooSmall => tells(3, 0, 0),
+    }
+}
+
+// An answer at a time, not `Result<T, E>` of two that tell: the tellings of specs/ are of whole answers.
 impl Tell for Result<usize, TooLong> {
     ghost told = { length_told };
 
@@ -118,9 +131,7 @@ impl Tell for Result<Frame, DecodeError> {
     fn telling(self) -> Telling {
         match self {
             Ok(frame) => of_frame(frame),
-            Err(DecodeError::EmptyFrame) => tells(1, 0, 0),
-            Err(DecodeError::InvalidFrame { decoded }) => tells(2, decoded, 0),
-            Err(DecodeError::TargetBufTooSmall) => tells(3, 0, 0),
+            Err(refusal) => of_decode_error(refusal),
         }
     }
 }
@@ -131,9 +142,7 @@ impl Tell for Result<usize, DecodeError> {
     fn telling(self) -> Telling {
         match self {
             Ok(n) => tells(0, n, 0),
-            Err(DecodeError::EmptyFrame) => tells(1, 0, 0),
-            Err(DecodeError::InvalidFrame { decoded }) => tells(2, decoded, 0),
-            Err(DecodeError::TargetBufTooSmall) => tells(3, 0, 0),
+            Err(refusal) => of_decode_error(refusal),
         }
     }
 }

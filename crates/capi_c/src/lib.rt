@@ -1,5 +1,5 @@
 //! The archive for C callers: each call of `capi`, under the name that C calls it by and with the same promise. The one-shot calls are
-//! here, the workstation's in `stream`.
+//! here, the workstation's in `stream`. They stand twice since no crate can call an archive, and `rust_answers` calls `capi`.
 #![tactic(auto)]
 
 pub mod stream;

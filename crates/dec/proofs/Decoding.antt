@@ -10,8 +10,7 @@ use Rattle.cobs.specs.Code.{read, read_in}
 use Rattle.cobs.specs.Answers.{done}
 use Rattle.cobs.specs.OneShot.{meant, decoded, decode_told, decode_dest}
 use Rattle.dec.specs.Stream.{new, Outcome, told, outcome, is_more, further, joined, used, push_outcome, push_dest}
-use Rattle.dec.specs.Calls.{decoded_told}
-use Rattle.dec.specs.Helpers.{stopped}
+use Rattle.dec.specs.Calls.{decoded_told, stopped}
 use Rattle.dec.specs.declared.stream.CobsDecoder.{CobsDecoder}
 use Rattle.dec.specs.declared.stream.Frame.{Frame}
 use Rattle.dec.specs.declared.stream.PushError.{PushError}

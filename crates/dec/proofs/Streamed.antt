@@ -2,10 +2,10 @@
 use mathlib.Core.Path.{◌≡◌, refl, sym, ap, ◌∙◌}
 use mathlib.Core.Bool.{false}
 use mathlib.Core.List.{List, [], ◌∷◌, ◌++◌}
-use Prim.Native.Nat.{ℕ, ◌+◌, ◌≤◌, ◌<◌}
+use Prim.Native.Nat.{ℕ, ◌+◌, ◌<◌}
 use native.Mathlib.Numerals.{add-one}
 use lib.ListN.{length, get_or, take, drop, take-append-drop}
-use lib.Seq.{take-suc, take_all}
+use lib.Seq.{take-suc}
 use Rattle.dec.specs.Stream.{new, Outcome, goes, is_more, further, joined, piece_outcome, piece_dest, push_outcome, push_dest}
 use Rattle.dec.specs.declared.stream.CobsDecoder.{CobsDecoder}
 use Rattle.dec.proofs.Good.{new-good}
@@ -25,9 +25,6 @@ streamed_none p d₀ d e =
       memory = sym (push_dest_piece new [] d₀ (new-good (length d₀)));
       long = refl;
     }
-
-pub streamed_all : (p d₀ : List ℕ) (i : ℕ) (d : CobsDecoder) (m : List ℕ) → Streamed p d₀ i d m → length p ≤ i → m ≡ push_dest new p d₀
-streamed_all p d₀ i d m w h = w.memory ∙ ap (λ (q : List ℕ). push_dest new q d₀) (take_all i p h)
 
 module _ (p d₀ : List ℕ) (i : ℕ) (d : CobsDecoder) (m : List ℕ) (w : Streamed p d₀ i d m) (h : i < length p) (b : ℕ) (eb : b ≡ get_or p i 0)
     (o : Outcome) (e : o ≡ push_outcome d (length m) (b ∷ [])) (m' : List ℕ) (q : m' ≡ push_dest d (b ∷ []) m) where

@@ -6,10 +6,6 @@ use Rattle.dec.specs.declared.fast.Open.{Open}
 use Rattle.dec.specs.declared.state.DecoderState.{DecoderState}
 use Rattle.dec.specs.declared.state.DecoderState.TheVariants.{Grab, GrabChain}
 use Rattle.dec.specs.declared.stream.CobsDecoder.{CobsDecoder}
-use Rattle.dec.specs.declared.stream.PushError.{PushError}
-use Rattle.dec.specs.declared.stream.PushError.TheVariants as push
-use Rattle.dec.specs.declared.decode.DecodeError.{DecodeError}
-use Rattle.dec.specs.declared.decode.DecodeError.TheVariants.{InvalidFrame, TargetBufTooSmall}
 
 -- Over the piece p, from i with decoder d and destination m, comes what comes from i' with d' and m'.
 pub record Ahead (room : ℕ) (p : List ℕ) (i : ℕ) (d : CobsDecoder) (m : List ℕ) (i' : ℕ) (d' : CobsDecoder) (m' : List ℕ) : Type 0 where
@@ -43,9 +39,3 @@ Patched p i place o d o' d' =
 abbrev pub Passed : (p : List ℕ) (from to : ℕ) (d : List ℕ) (most k : ℕ) (d' : List ℕ) → Type 0
 Passed p from to d most k d' =
     (code left : ℕ) → most ≤ left → Ahead (length d) p from (inside code left to) d (from + k) (inside code (left - k) (to + k)) d'
-
--- A push's refusal as `decode` gives it. A new decoder is never in a bad state: nothing is decoded.
-abbrev pub stopped : PushError → DecodeError
-stopped (push.InvalidFrame decoded consumed) = InvalidFrame decoded
-stopped (push.TargetBufTooSmall consumed) = TargetBufTooSmall
-stopped push.BadState = InvalidFrame 0

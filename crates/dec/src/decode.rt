@@ -1,8 +1,7 @@
 //! One-shot decoding, over `push`.
 ghost use Rattle.std.specs.Prelude.{◌≡◌, length};
 ghost use Rattle.cobs.specs.OneShot.{decode_told, decode_dest};
-ghost use Rattle.dec.specs.Calls.{decoded_told};
-ghost use Rattle.dec.specs.Helpers.{stopped};
+ghost use Rattle.dec.specs.Calls.{decoded_told, stopped};
 
 use crate::stream::{CobsDecoder, Frame, PushError};
 use std::error::Error;

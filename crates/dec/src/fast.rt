@@ -26,7 +26,8 @@ impl Open {
     }
 }
 
-/// How far into the piece and the destination, and the group that is open there.
+/// How far into the piece and the destination, and the group that is open there. An answer only: the contracts of `codes` and
+/// `by_sixteen` are of the two lent buffers, each at its own place.
 #[derive(Clone, Copy)]
 pub(crate) struct Reached {
     pub i: usize,
@@ -62,13 +63,9 @@ fn codes(piece: &[u8], i: usize, dest: &mut [u8], place: usize, opened: Open) ->
     requires le_left { opened.code ≡ 255 → 16 ≤ opened.left }
     ensures { Patched piece.now i place opened dest.old result dest.new }
 {
-    if opened.left == 0 {
-        if piece[i] == 1 {
-            if all16(piece, i, 1) {
-                fill16(dest, place, 0);
-                return Open { code: 1, left: 0 };
-            }
-        }
+    if opened.left == 0 && piece[i] == 1 && all16(piece, i, 1) {
+        fill16(dest, place, 0);
+        return Open { code: 1, left: 0 };
     }
     each_code(piece, i, dest, place, opened)
 }
@@ -90,10 +87,8 @@ pub(crate) fn by_sixteen(
     let mut group = opened;
     // Not a `for`: two places go on together, and any of four tests ends it.
     while 16 <= dest.len() - place {
-        if group.code == 0xFF {
-            if group.left < 16 {
-                break;
-            }
+        if group.code == 0xFF && group.left < 16 {
+            break;
         }
         if !clear16(piece, i) {
             break;
@@ -106,7 +101,8 @@ pub(crate) fn by_sixteen(
     Reached { i, place, group }
 }
 
-// The bytes of a group up to a zero, at most so many, one by one. Answers how many.
+// The bytes of a group up to a zero, at most so many, one by one. Answers how many. By a loop as enc's `bytes`, where
+// `position` and `copy_from_slice` are measured.
 pub(crate) fn bytes(piece: &[u8], from: usize, dest: &mut [u8], to: usize, most: usize) -> usize
     requires { (from + most ≤ length piece.now) × (to + most ≤ length dest.old) }
     ensures few { result ≤ most }

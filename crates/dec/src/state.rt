@@ -22,6 +22,27 @@ pub enum DecodeResult {
     DataContinue(u8),
 }
 
+impl fmt::Display for DecoderState {
+    fn fmt<W: fmt::Write>(&self, f: &mut fmt::Formatter<W>) -> fmt::Result {
+        match self {
+            DecoderState::Idle => f.write_str("Idle"),
+            DecoderState::Grab(left) => write!(f, "Grab {left}"),
+            DecoderState::GrabChain(left) => write!(f, "GrabChain {left}"),
+        }
+    }
+}
+
+impl fmt::Display for DecodeResult {
+    fn fmt<W: fmt::Write>(&self, f: &mut fmt::Formatter<W>) -> fmt::Result {
+        match self {
+            DecodeResult::NoData => f.write_str("NoData"),
+            DecodeResult::DataStart => f.write_str("DataStart"),
+            DecodeResult::DataComplete => f.write_str("DataComplete"),
+            DecodeResult::DataContinue(byte) => write!(f, "DataContinue {byte:02x}"),
+        }
+    }
+}
+
 /// A zero while bytes of a group are to come: 01's InvalidFrame, with 0 decoded bytes.
 #[derive(Clone, Copy, Debug, PartialEq, Eq)]
 pub struct EarlyZero;

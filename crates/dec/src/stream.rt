@@ -4,7 +4,7 @@ ghost use Rattle.dec.specs.Helpers.{open_at, Ahead};
 ghost use Rattle.dec.specs.Stream.{at, new, skipping, bad, goes, stops, told, outcome, further, byte_outcome, byte_dest, push_outcome, push_dest};
 
 use crate::fast::{Open, Reached, by_sixteen, bytes};
-use crate::state::{DecodeResult, DecoderState};
+use crate::state::{DecodeResult, DecoderState, Stepped};
 use std::error::Error;
 use std::fmt;
 
@@ -12,8 +12,16 @@ use std::fmt;
 #[derive(Clone, Copy, Debug, PartialEq, Eq)]
 pub struct CobsDecoder {
     pub place: usize,
+    // A flag, as 01's form has it: write place, skip flag and the enum, written anew at each step. `bad` of specs/ speaks of all three.
     pub skip: bool,
     pub state: DecoderState,
+}
+
+impl fmt::Display for CobsDecoder {
+    fn fmt<W: fmt::Write>(&self, f: &mut fmt::Formatter<W>) -> fmt::Result {
+        let skip = if self.skip { " skip" } else { "" };
+        write!(f, "place {}{skip} {}", self.place, self.state)
+    }
 }
 
 /// A frame: its size, and how many bytes of the source were parsed, up to and with its zero.
@@ -21,6 +29,12 @@ pub struct CobsDecoder {
 pub struct Frame {
     pub size: usize,
     pub parsed: usize,
+}
+
+impl fmt::Display for Frame {
+    fn fmt<W: fmt::Write>(&self, f: &mut fmt::Formatter<W>) -> fmt::Result {
+        write!(f, "frame {}, parsed {}", self.size, self.parsed)
+    }
 }
 
 /// Why a piece gave no frame. `consumed` counts its bytes up to and with the one that stopped it.
@@ -167,20 +181,18 @@ impl CobsDecoder {
         ensures memory { dest.new ≡ byte_dest self byte dest.old }
     {
         let place = self.place;
-        let state = self.state;
         if self.skip {
             return self.skipped(byte);
         }
-        let stepped = state.step(byte);
-        let after = stepped.state;
-        let Ok(given) = stepped.result else {
+        let Stepped { state, result } = self.state.step(byte);
+        let Ok(given) = result else {
             return ended(Err(PushError::InvalidFrame {
                 decoded: place,
                 consumed,
             }));
         };
         match given {
-            DecodeResult::NoData | DecodeResult::DataStart => going(place, after),
+            DecodeResult::NoData | DecodeResult::DataStart => going(place, state),
             DecodeResult::DataComplete => ended(Ok(Some(Frame {
                 size: place,
                 parsed: consumed,
@@ -193,7 +205,7 @@ impl CobsDecoder {
                     };
                 }
                 dest[place] = b;
-                going(place + 1, after)
+                going(place + 1, state)
             }
         }
     }

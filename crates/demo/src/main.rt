@@ -3,7 +3,6 @@
 #![tactic(auto)]
 
 mod receiving;
-mod say;
 mod sender;
 
 ghost use Rattle.std.specs.Prelude.{◌≡◌, length};
@@ -23,25 +22,21 @@ fn decode_buffer() -> [u8; 240]
 // that the call before it left.
 fn round(
     rt: &impl Print,
-    heading: &[u8],
+    heading: &str,
     order: &[u8],
     wire: Wire,
     buffer: &mut [u8],
     table: &mut [u8],
 ) -> io::Result<Wire> {
-    say::text(rt, heading)?;
+    println!(rt; "\n{heading}")?;
     let mut stream = [0u8; 4_096];
     let n = sender::send(order, &mut stream);
     receiving::deliver(rt, wire, buffer, table, order, &stream[..n])
 }
 
 fn last(rt: &impl Print, wire: Wire, table: &[u8]) -> io::Result<()> {
-    let receiver = wire.receiver;
-    if let Ok(Standing::Complete) = batch::stands(receiver, table) {
-        say::text(
-            rt,
-            b"Complete: each particle was weighed once, and the total is the sender's.\n",
-        )?;
+    if let Ok(Standing::Complete) = batch::stands(wire.receiver, table) {
+        println!(rt; "Complete: each particle was weighed once, and the total is the sender's.")?;
     }
     Ok(())
 }
@@ -52,7 +47,7 @@ fn main(rt: HostRuntime) -> io::Result<()> {
     sender::introduce(&rt)?;
     let a = round(
         &rt,
-        b"\nThe wire loses 5, 9 and 11, repeats 4 and 8, and reorders; its bytes come in pieces of any length.\n",
+        "The wire loses 5, 9 and 11, repeats 4 and 8, and reorders; its bytes come in pieces of any length.",
         b"\x00\x02\x01\x04\x04\x03\x06\x08\x0D\x07\x0A\x08\x0C",
         Wire::open(7, &table),
         &mut buffer,
@@ -60,19 +55,12 @@ fn main(rt: HostRuntime) -> io::Result<()> {
     )?;
     let b = round(
         &rt,
-        b"\n5, 9 and 11 are sent again; 9 is lost again.\n",
+        "5, 9 and 11 are sent again; 9 is lost again.",
         b"\x0B\x05",
         a,
         &mut buffer,
         &mut table,
     )?;
-    let c = round(
-        &rt,
-        b"\n9 is sent again.\n",
-        b"\x09",
-        b,
-        &mut buffer,
-        &mut table,
-    )?;
+    let c = round(&rt, "9 is sent again.", b"\x09", b, &mut buffer, &mut table)?;
     last(&rt, c, &table)
 }

@@ -1,7 +1,6 @@
 //! The receiving side: pieces in, and a line for each frame's answer.
 ghost use Rattle.std.specs.Prelude.{◌≤◌};
 
-use crate::say;
 use batch::Standing;
 use std::io;
 use wire::{Receipt, Refusal, Wire};
@@ -14,32 +13,18 @@ struct Progress {
     pieces: usize,
 }
 
-fn numbered(rt: &impl Print, name: &[u8], k: usize) -> io::Result<()> {
-    say::text(rt, name)?;
-    say::two(rt, k)
-}
-
 // The answer, in a column of eleven.
 fn answered(rt: &impl Print, found: Result<Option<Standing>, Refusal>) -> io::Result<()> {
     match found {
-        Ok(Some(Standing::Open)) => say::text(rt, b"Open       "),
-        Ok(Some(Standing::Missing(k))) => {
-            numbered(rt, b"Missing ", k)?;
-            say::text(rt, b" ")
-        }
-        Ok(Some(Standing::Complete)) => say::text(rt, b"Complete   "),
-        _ => say::text(rt, b"refused    "),
+        Ok(Some(Standing::Open)) => print!(rt; "Open       "),
+        Ok(Some(Standing::Missing(k))) => print!(rt; "Missing {k:2} "),
+        Ok(Some(Standing::Complete)) => print!(rt; "Complete   "),
+        _ => print!(rt; "refused    "),
     }
 }
 
 fn weighed(wire: Wire) -> usize {
-    let receiver = wire.receiver;
-    marks::count(&receiver.marks)
-}
-
-fn total(wire: Wire) -> usize {
-    let receiver = wire.receiver;
-    receiver.total as usize
+    marks::count(&wire.receiver.marks)
 }
 
 // One line: the frame, its pieces, the answer, and what has been weighed.
@@ -55,7 +40,7 @@ fn line(
     print!(rt; "  frame {frame:2}  in {pieces} {unit:9}")?;
     answered(rt, found)?;
     let count = weighed(after);
-    let sum = total(after);
+    let sum = after.receiver.total;
     let news = if weighed(before) == count {
         "; no new particle"
     } else {
@@ -97,6 +82,7 @@ fn take(
 ) -> io::Result<Progress> {
     let mut now = p;
     let mut left = piece;
+    // A loop: how far each turn goes on is what the call took.
     while !left.is_empty() {
         let receipt = wire::receive(now.wire, buffer, table, left);
         let taken = receipt.consumed.clamp(1, left.len());
@@ -128,6 +114,7 @@ pub(crate) fn deliver(
         pieces: 0,
     };
     let mut left = stream;
+    // A loop: the pieces have no one length, as `chunks` would give.
     while !left.is_empty() {
         let at = stream.len() - left.len();
         let (piece, rest) = left.split_at(cut(at).min(left.len()));

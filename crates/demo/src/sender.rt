@@ -1,7 +1,6 @@
 //! The sender: a batch of 100 particles, eight to a frame, and a last frame with the close.
 ghost use Rattle.std.specs.Prelude.{◌≤◌, length};
 
-use crate::say;
 use record::Record;
 use std::io;
 
@@ -50,19 +49,14 @@ fn message(k: u8, out: &mut [u8]) -> usize {
     ((end - first) as usize) * 16
 }
 
-// The first n bytes as a frame, and its length.
-fn framed(bytes: &[u8], n: usize, out: &mut [u8]) -> usize {
-    if bytes.len() < n {
-        return 0;
-    }
-    record::frame::write_frame(&bytes[..n], out).unwrap_or(0)
-}
-
 // Frame k on the wire, and its length.
 fn frame(k: u8, out: &mut [u8]) -> usize {
     let mut bytes = [0u8; 128];
     let n = message(k, &mut bytes);
-    framed(&bytes, n, out)
+    let Some(message) = bytes.get(..n) else {
+        return 0;
+    };
+    record::frame::write_frame(message, out).unwrap_or(0)
 }
 
 /// The frames of these numbers, one after another, and how many bytes they are.
@@ -81,8 +75,7 @@ pub(crate) fn send(order: &[u8], out: &mut [u8]) -> usize
 }
 
 pub(crate) fn introduce(rt: &impl Print) -> io::Result<()> {
-    say::text(
-        rt,
-        b"Batch 7: 100 particles, total weight 149500, in frames 0 to 12 of up to 8 records; frame 13 has the close.\n",
+    println!(rt;
+        "Batch 7: 100 particles, total weight 149500, in frames 0 to 12 of up to 8 records; frame 13 has the close."
     )
 }

@@ -5,12 +5,13 @@ use mathlib.Core.List.{List, [], ◌∷◌, ◌++◌, append-nil, append_assoc}
 use Prim.Native.Nat.{ℕ, zero, suc, ◌+◌, ◌-◌, ◌≤◌, ◌<◌, suc-le-suc, zero-le}
 use native.Mathlib.Omega.{arith}
 use lib.ListN.{length, get_or, take, drop, length-append, length-drop}
-use lib.Seq.{length-take-le, split_at, get_or-drop, drop-drop}
+use lib.Seq.{length-take-le, split_at, get_or-drop, get_or-take, drop-drop}
 use Rattle.cobs.specs.Code.{NoZero, encode}
 use Rattle.cobs.proofs.Runs.{no_zero_append}
 use Rattle.cobs.proofs.Groups.{encode-last, encode-cut}
 use Rattle.blocks.specs.Blocks.{is_clear}
 use Rattle.blocks.proofs.Blocks.{clear_says}
+use Rattle.enc.specs.Fast.{AfterLastZero}
 use Rattle.enc.proofs.Deciding.{by_lt}
 use Rattle.enc.proofs.Tails.{RunAt, tail_full}
 
@@ -67,12 +68,37 @@ module _ (s : List ℕ) (i : ℕ) where
 abbrev pub Clean : (s : List ℕ) (a b : ℕ) → Type 0
 Clean s a b = (k : ℕ) → a ≤ k → k < b → get_or s k 0 ≡ 0 → ⊥
 
-pub clean-byte : (s : List ℕ) (a b : ℕ) → 0 < a → Clean s a b → (get_or s (a - 1) 0 ≡ 0 → ⊥) → Clean s (a - 1) b
-clean-byte s a b h c nz k l m =
-    by_lt k a (λ g. subst (λ (j : ℕ). get_or s j 0 ≡ 0 → ⊥) (omega arith) nz) (λ g. c k g m)
-
 pub clean-sixteen : (s : List ℕ) (a b : ℕ) → 16 ≤ a → Clean s a b → is_clear s (a - 16) ≡ true → Clean s (a - 16) b
 clean-sixteen s a b h c q k l m =
     by_lt k a
     (λ g. subst (λ (j : ℕ). get_or s j 0 ≡ 0 → ⊥) (omega arith) ((clear_says s (a - 16) q).1 (k - (a - 16)) (omega arith)))
     (λ g. c k g m)
+
+-- ---- the last zero from a to b, with none from b to c
+
+module _ (s : List ℕ) (a b c : ℕ) (h : a ≤ b) (l : b ≤ c) (w : c ≤ length s) (none : Clean s b c) where
+  in-part : (k : ℕ) → a ≤ k → k < b → get_or (take (b - a) (drop a s)) (k - a) 0 ≡ get_or s k 0
+  in-part k m n = get_or-take (b - a) (drop a s) (k - a) 0 (omega arith) ∙ get_or-drop a s (k - a) 0 ∙ ap (λ (j : ℕ). get_or s j 0) (omega arith)
+
+  long : length (take (b - a) (drop a s)) ≡ b - a
+  long = length-take-le (b - a) (drop a s) (omega (arith, length-drop a s))
+
+  -- none in the part either, from its place i on
+  clean-part : (i : ℕ) → ((j : ℕ) → i ≤ j → j < length (take (b - a) (drop a s)) → get_or (take (b - a) (drop a s)) j 0 ≡ 0 → ⊥) → Clean s (a + i) c
+  clean-part i f k m n q =
+      by_lt k b (λ g. f (k - a) (omega arith) (omega (arith, long)) (in-part k (omega arith) g ∙ q)) (λ g. none k g n q)
+
+  pub last-zero : (k : ℕ) → k < length (take (b - a) (drop a s)) → get_or (take (b - a) (drop a s)) k 0 ≡ 0
+      → ((j : ℕ) → k + 1 ≤ j → j < length (take (b - a) (drop a s)) → get_or (take (b - a) (drop a s)) j 0 ≡ 0 → ⊥) → AfterLastZero s a c (a + k + 1)
+  last-zero k m z f =
+      record {
+        after = omega arith;
+        before = omega (arith, long);
+        clean = λ j o. clean-part (k + 1) f j (omega arith);
+        stops = λ o. ap (λ (j : ℕ). get_or s j 0) (omega arith) ∙ sym (in-part (a + k) (omega arith) (omega (arith, long)))
+            ∙ ap (λ (j : ℕ). get_or (take (b - a) (drop a s)) j 0) (omega arith) ∙ z;
+      }
+
+  pub no-zero : ((j : ℕ) → j < length (take (b - a) (drop a s)) → get_or (take (b - a) (drop a s)) j 0 ≡ 0 → ⊥) → AfterLastZero s a c a
+  no-zero f =
+      record { after = omega arith; before = omega arith; clean = λ j o. clean-part 0 (λ i _. f i) j (omega arith); stops = λ o. absurd (omega arith) }

@@ -2,12 +2,12 @@
 use Rattle.std.specs.Prelude.{Result, Ok, Err, IsErrAnd}
 use Rattle.std.proofs.Common.{rules}
 use Rattle.std.proofs.lemmas.Result.{err_from_is_err_and}
-use mathlib.Core.Path.{◌≡◌, refl, sym, ap, ◌∙◌}
+use mathlib.Core.Path.{◌≡◌, refl, sym}
 use mathlib.Core.List.{List, [], ◌∷◌, append-nil}
 use Prim.Native.Nat.{ℕ, suc, ◌+◌, ◌-◌, ◌≤◌, ◌<◌}
 use native.Mathlib.Numerals.{add-one}
 use native.Mathlib.Omega.{arith}
-use lib.ListN.{length, take, drop, set, length-append, length-set}
+use lib.ListN.{length, take, drop, set, length-append}
 use lib.Seq.{take-append_seam, drop-append_seam, take-length, drop-length}
 use borrow.Rule.Slice.PartMut.{put_mid}
 use borrow.Author.Tests.{lt-ltb, le-ltb}
@@ -17,7 +17,7 @@ use Rattle.cobs.specs.OneShot.{Form, plain, zeros_around, chosen, finished, enco
 use Rattle.cobs.specs.Lengths.{length_told}
 use Rattle.cobs.specs.declared.refusals.DestBufTooSmall.{DestBufTooSmall}
 use Rattle.cobs.proofs.Lengths.{length_ok, length_err}
-use Rattle.cobs.proofs.Over.{length_over, over_snoc, over-fits}
+use Rattle.cobs.proofs.Over.{over_snoc, over-fits}
 use Rattle.cobs.proofs.Sentinel.{length-masked}
 use Rattle.blocks.specs.Blocks.{masked_front}
 use Rattle.enc.specs.Fast.{room_for}
@@ -77,9 +77,6 @@ inner_is m [] part h q = absurd (omega arith)
 inner_is m (x ∷ d) part h q =
     let e : suc (length d) - 1 ≡ length d = omega arith in
     rw (q, e, take-length d, drop-length d, append-nil (over (encode m) d))
-
-pub length_inner : (m d d' : List ℕ) (i : ℕ) → d' ≡ over (0 ∷ encode m) d → length (set d' i 0) ≡ length d
-length_inner m d d' i q = length-set d' i 0 ∙ ap length q ∙ length_over (0 ∷ encode m) d
 
 -- and a zero behind that
 pub around_is : (m d : List ℕ) → set (over (0 ∷ encode m) d) (length (encode m) + 1) 0 ≡ over (finished zeros_around m) d

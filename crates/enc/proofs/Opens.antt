@@ -35,22 +35,6 @@ kept-paste s d at t n h k ht =
 
 -- ---- where the encoder starts and ends
 
-pub first-open : (s d : List ℕ) → length (encode s) ≤ length d → Open s 0 0 1 0 d
-first-open s d h =
-    record {
-      start = 0;
-      run = 0;
-      here = refl;
-      code = refl;
-      few = omega arith;
-      within = omega arith;
-      clean = λ k l. absurd (not-suc-le-zero l);
-      size = omega arith;
-      front = refl;
-      copied = λ k l. absurd (not-suc-le-zero l);
-      fits = h;
-    }
-
 pub all-written : (s d d' : List ℕ) → length (encode s) ≤ length d → take (length (encode s)) d' ≡ encode s → Kept s d d' → d' ≡ over (encode s) d
 all-written s d d' h q k =
     sym (take-append-drop (length (encode s)) d')

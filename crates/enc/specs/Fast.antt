@@ -1,6 +1,6 @@
 -- What the private functions behind the one-shot calls tell each other; no promise of a public function cites it.
 -- Assumes nothing.
-use Rattle.std.specs.Prelude.{◌≡◌, List, ◌++◌, ℕ, ◌+◌, ◌-◌, ◌≤◌, ◌<◌, length, get_or, take, drop, Result, Ok, Err, if◌then◌else◌}
+use Rattle.std.specs.Prelude.{◌≡◌, List, ◌++◌, ℕ, ◌+◌, ◌-◌, ◌≤◌, ◌<◌, length, get_or, take, drop, Result, Ok, Err, ⊤, if◌then◌else◌}
 use Rattle.cobs.specs.Words.{◌exceeds◌}
 use Rattle.cobs.specs.Code.{encode}
 use Rattle.cobs.specs.declared.refusals.DestBufTooSmall.{DestBufTooSmall}
@@ -10,7 +10,7 @@ abbrev pub encoding : List ℕ → List ℕ
 encoding m = encode m
 
 -- Whether the encoding fits.
-abbrev pub room_for : (src : List ℕ) (room : ℕ) → Result Unit DestBufTooSmall
+abbrev pub room_for : (src : List ℕ) (room : ℕ) → Result ⊤ DestBufTooSmall
 room_for src room = if length (encode src) exceeds room then Err (record {}) else Ok tt
 
 -- A group whose code is at `place` can end before `at`: its code is 1 to 255.

@@ -8,6 +8,8 @@ ghost use Rattle.enc.specs.Fast.{Closes, Short, Open, Kept, Ends};
 use crate::state::EncoderState;
 use blocks::{Taken, fill16, take16};
 
+// `Open ..` and `Kept ..` stand whole in three contracts: each is of the two lent buffers, which no struct of numbers carries.
+
 // How far the next byte may stand from the open group's code for sixteen more to leave the group short of full.
 const BLOCK_ROOM: usize = EncoderState::RUN - 16;
 
@@ -57,24 +59,23 @@ fn block(src: &[u8], dest: &mut [u8], s: Stand) -> Stand
     ensures sixteen { result.from ≡ s.from + 16 }
     ensures kept { Kept src.now dest.old dest.new }
 {
-    let taken = take16(dest, s.at, src, s.from);
-    if let Taken::Clear = taken {
-        return Stand {
+    match take16(dest, s.at, src, s.from) {
+        Taken::Clear => Stand {
             from: s.from + 16,
             at: s.at + 16,
             place: s.place,
-        };
+        },
+        Taken::Zeros => {
+            dest[s.place] = (s.at - s.place) as u8;
+            fill16(dest, s.at, 1);
+            Stand {
+                from: s.from + 16,
+                at: s.at + 16,
+                place: s.at + 15,
+            }
+        }
+        _ => marks(src, dest, s),
     }
-    if let Taken::Zeros = taken {
-        dest[s.place] = (s.at - s.place) as u8;
-        fill16(dest, s.at, 1);
-        return Stand {
-            from: s.from + 16,
-            at: s.at + 16,
-            place: s.at + 15,
-        };
-    }
-    marks(src, dest, s)
 }
 
 // The bytes up to a zero, the source's end or a full group, one by one. Answers how many.
@@ -109,11 +110,9 @@ pub(crate) fn put(src: &[u8], dest: &mut [u8]) -> usize
         place: 0,
     };
     loop {
-        if 16 <= src.len() - s.from {
-            if s.at - s.place <= BLOCK_ROOM {
-                s = block(src, dest, s);
-                continue;
-            }
+        if 16 <= src.len() - s.from && s.at - s.place <= BLOCK_ROOM {
+            s = block(src, dest, s);
+            continue;
         }
         let n = bytes(src, dest, s);
         let from = s.from + n;
@@ -123,11 +122,7 @@ pub(crate) fn put(src: &[u8], dest: &mut [u8]) -> usize
             return at;
         }
         // A zero is behind the group, unless it is full.
-        let zero = if at - s.place < EncoderState::FULL_LENGTH {
-            1
-        } else {
-            0
-        };
+        let zero = usize::from(at - s.place < EncoderState::FULL_LENGTH);
         s = Stand {
             from: from + zero,
             at: at + 1,

@@ -135,23 +135,18 @@ fn measured(src: &[u8]) -> usize
 }
 
 // Where the bytes after the last zero of src from `from` to `to` start; `from` if none is zero.
-// From the back, sixteen at once where none of them is zero: `rposition` has no such step.
+// From the back, sixteen at once while none of them is zero: `rposition` alone is proved too, but costs 4.40 instructions a byte of
+// random bytes in exact room for 2.84.
 fn after_last_zero(src: &[u8], from: usize, to: usize) -> usize
     requires { (from ≤ to) × (to ≤ length src.now) }
     ensures { AfterLastZero src.now from to result }
 {
     let mut end = to;
-    while from < end {
-        if 16 <= end - from {
-            if clear16(src, end - 16) {
-                end -= 16;
-                continue;
-            }
-        }
-        if src[end - 1] == 0 {
-            return end;
-        }
-        end -= 1;
+    while 16 <= end - from && clear16(src, end - 16) {
+        end -= 16;
     }
-    from
+    match src[from..end].iter().rposition(|b| *b == 0) {
+        Some(k) => from + k + 1,
+        None => from,
+    }
 }

@@ -3,6 +3,7 @@ ghost use Rattle.std.specs.Prelude.{◌≡◌, false};
 ghost use Rattle.enc.specs.State.{fresh_state, no_code, step, state_bad, state_push, told_asked, state_push_told, state_finalize, told_state_finished, state_finalize_told};
 
 use cobs::refusals::BadState;
+use std::fmt;
 
 /// The output starts with one byte held open for a code. `place` is where the open group's code is to stand, `code` what
 /// it is if the group closes now.
@@ -23,6 +24,29 @@ pub enum PushResult {
     ModifyFromStartAndPushAndSkip { place: usize, code: u8, byte: u8 },
 }
 
+impl fmt::Display for EncoderState {
+    fn fmt<W: fmt::Write>(&self, f: &mut fmt::Formatter<W>) -> fmt::Result {
+        write!(f, "place {} code {}", self.place, self.code)
+    }
+}
+
+impl fmt::Display for PushResult {
+    fn fmt<W: fmt::Write>(&self, f: &mut fmt::Formatter<W>) -> fmt::Result {
+        match self {
+            PushResult::AddSingle(byte) => write!(f, "AddSingle {byte:02x}"),
+            PushResult::ModifyFromStartAndSkip { place, code } => {
+                write!(f, "ModifyFromStartAndSkip {place} {code:02x}")
+            }
+            PushResult::ModifyFromStartAndPushAndSkip { place, code, byte } => {
+                write!(
+                    f,
+                    "ModifyFromStartAndPushAndSkip {place} {code:02x} {byte:02x}"
+                )
+            }
+        }
+    }
+}
+
 /// What a byte asks, and the state after it.
 #[derive(Clone, Copy, Debug, PartialEq, Eq)]
 pub struct StatePushed {
@@ -35,6 +59,12 @@ pub struct StatePushed {
 pub struct Modify {
     pub place: usize,
     pub code: u8,
+}
+
+impl fmt::Display for Modify {
+    fn fmt<W: fmt::Write>(&self, f: &mut fmt::Formatter<W>) -> fmt::Result {
+        write!(f, "{} {:02x}", self.place, self.code)
+    }
 }
 
 impl EncoderState {

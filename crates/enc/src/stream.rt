@@ -13,8 +13,16 @@ use std::fmt;
 #[derive(Clone, Copy, Debug, PartialEq, Eq)]
 pub struct Encoder {
     pub state: EncoderState,
+    // A flag: `fresh`, `moved` and `is_bad` of specs/ speak of it, the last for 01's BadState of a full encoder whose code is not 1.
     pub full: bool,
     pub count: usize,
+}
+
+impl fmt::Display for Encoder {
+    fn fmt<W: fmt::Write>(&self, f: &mut fmt::Formatter<W>) -> fmt::Result {
+        let full = if self.full { " full" } else { "" };
+        write!(f, "{}{full} count {}", self.state, self.count)
+    }
 }
 
 /// Why a piece is not accepted.

@@ -1,54 +1,13 @@
 //! EncoderState alone: what a byte asks of the output, and the state after it.
-use crate::read::{Parts, Words};
-use crate::{say, words};
-use cobs::refusals::BadState;
-use enc::state::{EncoderState, Modify, PushResult, StatePushed};
+use crate::read::{Parts, Words, byte};
+use crate::say;
+use enc::state::{EncoderState, StatePushed};
 use std::io;
-
-pub(crate) fn shown(rt: &impl Print, s: EncoderState) -> io::Result<()> {
-    say::named(rt, words::PLACE, s.place)?;
-    say::named(rt, words::CODE, s.code as usize)
-}
-
-// Where a code goes, and the code.
-fn modify(rt: &impl Print, place: usize, code: u8) -> io::Result<()> {
-    say::number(rt, place)?;
-    say::word(rt, words::SPACE)?;
-    say::byte(rt, code)
-}
-
-fn asked(rt: &impl Print, found: Result<PushResult, BadState>) -> io::Result<()> {
-    match found {
-        Ok(PushResult::AddSingle(b)) => {
-            say::word(rt, words::ADD_SINGLE)?;
-            say::byte(rt, b)
-        }
-        Ok(PushResult::ModifyFromStartAndSkip { place, code }) => {
-            say::word(rt, words::MODIFY_AND_SKIP)?;
-            modify(rt, place, code)
-        }
-        Ok(PushResult::ModifyFromStartAndPushAndSkip { place, code, byte }) => {
-            say::word(rt, words::MODIFY_PUSH_AND_SKIP)?;
-            modify(rt, place, code)?;
-            say::word(rt, words::SPACE)?;
-            say::byte(rt, byte)
-        }
-        Err(refusal) => print!(rt; "{refusal}"),
-    }
-}
 
 fn push(rt: &impl Print, s: EncoderState, b: u8) -> io::Result<()> {
     let StatePushed { result, next } = s.push(b);
-    asked(rt, result)?;
-    say::word(rt, words::COMMA)?;
-    shown(rt, next)
-}
-
-fn finish(rt: &impl Print, s: EncoderState) -> io::Result<()> {
-    match s.finalize() {
-        Ok(Modify { place, code }) => modify(rt, place, code),
-        Err(refusal) => print!(rt; "{refusal}"),
-    }
+    say::answer(rt, result)?;
+    print!(rt; ", {next}")
 }
 
 /// `EncoderState::new`, `EncoderState::push PLACE CODE of BYTE`, `EncoderState::finalize PLACE CODE`.
@@ -78,14 +37,14 @@ impl Call {
 pub(crate) fn given(place: usize, code: usize) -> EncoderState {
     EncoderState {
         place,
-        code: (code % 256) as u8,
+        code: byte(code),
     }
 }
 
 pub(crate) fn run(rt: &impl Print, call: Call, byte: u8) -> io::Result<()> {
     match call {
-        Call::New => shown(rt, EncoderState::new()),
+        Call::New => print!(rt; "{}", EncoderState::new()),
         Call::Push(s) => push(rt, s, byte),
-        Call::Finalize(s) => finish(rt, s),
+        Call::Finalize(s) => say::answer(rt, s.finalize()),
     }
 }

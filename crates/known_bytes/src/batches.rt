@@ -1,14 +1,14 @@
 //! The batch receiver: it and its table stay from line to line.
 use crate::read::{Parts, Words};
-use crate::{say, words};
+use crate::say;
 use batch::{Close, Receiver};
 use std::io;
 
 fn shown(rt: &impl Print, r: Receiver, table: &[u8]) -> io::Result<()> {
-    say::named(rt, words::BATCH, r.batch as usize)?;
-    say::named(rt, words::SLOTS, r.slots)?;
-    say::named(rt, words::ITS_TOTAL, r.total as usize)?;
-    say::word(rt, words::STANDS)?;
+    print!(rt;
+        "batch {}, slots {}, total {}, stands ",
+        r.batch, r.slots, r.total
+    )?;
     say::answer(rt, batch::stands(r, table))
 }
 
@@ -21,7 +21,7 @@ fn accept(rt: &impl Print, r: Receiver, frame: &[u8], table: &mut [u8]) -> io::R
     let accepted = batch::accept(r, table, frame);
     let next = accepted.next;
     say::answer(rt, accepted.answer)?;
-    say::word(rt, words::THEN)?;
+    print!(rt; "; ")?;
     shown(rt, next, table)?;
     say::holds(rt, table)?;
     Ok(next)

@@ -4,7 +4,7 @@ use crate::read::{Bytes, Case, Message};
 use crate::wires::Side;
 use crate::{
     alone, batches, decoding, encoding, feeding, lengths, marking, naming, read, records, say,
-    streaming, tools, wires, words,
+    streaming, tools, wires,
 };
 use batch::Receiver;
 use dec::stream::CobsDecoder;
@@ -22,19 +22,19 @@ pub(crate) struct Held {
     pub marks: Marks,
 }
 
-/// What is held after a line, and the buffer.
+/// What is held between two lines, and the buffer.
 #[derive(Clone, Copy)]
-pub(crate) struct After {
+pub(crate) struct Kept {
     pub held: Held,
     pub buffer: Bytes,
 }
 
 fn with_receiver(side: Side, receiver: Receiver) -> Side {
-    let w = side.wire;
-    let decoder = w.decoder;
-    let buffer = side.buffer;
-    let wire = Wire { decoder, receiver };
-    Side { wire, buffer }
+    let wire = Wire {
+        receiver,
+        ..side.wire
+    };
+    Side { wire, ..side }
 }
 
 fn answer(rt: &impl Print, call: Call, held: Held, m: &[u8], dest: &mut [u8]) -> io::Result<Held> {
@@ -46,16 +46,13 @@ fn answer(rt: &impl Print, call: Call, held: Held, m: &[u8], dest: &mut [u8]) ->
         Call::Decoding(c) => decoding::run(rt, c, m, dest)?,
         Call::Alone(c) => alone::run(rt, c, read::first(m))?,
         Call::Streaming(c) => {
-            let encoder = streaming::run(rt, c, held.encoder, m, dest)?;
-            next.encoder = encoder;
+            next.encoder = streaming::run(rt, c, held.encoder, m, dest)?;
         }
         Call::Feeding(c) => {
-            let decoder = feeding::run(rt, c, held.decoder, m, dest)?;
-            next.decoder = decoder;
+            next.decoder = feeding::run(rt, c, held.decoder, m, dest)?;
         }
         Call::Marking(c) => {
-            let marks = marking::run(rt, c, held.marks)?;
-            next.marks = marks;
+            next.marks = marking::run(rt, c, held.marks)?;
         }
         Call::Records(c) => records::run(rt, c, m, dest)?,
         Call::Batches(c) => {
@@ -63,8 +60,7 @@ fn answer(rt: &impl Print, call: Call, held: Held, m: &[u8], dest: &mut [u8]) ->
             next.side = with_receiver(held.side, receiver);
         }
         Call::Wires(c) => {
-            let side = wires::run(rt, c, held.side, m, dest)?;
-            next.side = side;
+            next.side = wires::run(rt, c, held.side, m, dest)?;
         }
         Call::Naming(c) => naming::run(rt, c, held.side.wire)?,
     }
@@ -86,34 +82,27 @@ fn long(
     answer(rt, call, held, &zeros[0..length], dest)
 }
 
-fn run_case(rt: &impl Print, case: Case, held: Held, buffer: Bytes) -> io::Result<After> {
-    let mut all = buffer.all;
-    let len = buffer.len;
+fn run_case(rt: &impl Print, case: Case, kept: Kept) -> io::Result<Kept> {
+    let Bytes { mut all, len } = case.buffer.unwrap_or(kept.buffer);
     let dest = &mut all[..len];
-    let next = match case.message {
-        Message::Bytes(m) => answer(rt, case.call, held, &m.all[..m.len], dest)?,
-        Message::Zeros(n) => long(rt, case.call, held, n, dest)?,
+    let held = match case.message {
+        Message::Bytes(m) => answer(rt, case.call, kept.held, &m.all[..m.len], dest)?,
+        Message::Zeros(n) => long(rt, case.call, kept.held, n, dest)?,
     };
-    Ok(After {
-        held: next,
+    Ok(Kept {
+        held,
         buffer: Bytes { all, len },
     })
 }
 
 // The line's case, run.
-fn run_line(
-    rt: &impl Print,
-    line: &[u8],
-    at: usize,
-    held: Held,
-    buffer: Bytes,
-) -> io::Result<After> {
-    say::word(rt, words::COLON)?;
+fn run_line(rt: &impl Print, line: &[u8], at: usize, kept: Kept) -> io::Result<Kept> {
+    print!(rt; ": ")?;
     let Some(case) = read::read(line) else {
-        say::named(rt, words::UNREAD, at)?;
-        return Ok(After { held, buffer });
+        print!(rt; "cannot read line {at}")?;
+        return Ok(kept);
     };
-    run_case(rt, case, held, case.buffer.unwrap_or(buffer))
+    run_case(rt, case, kept)
 }
 
 // A heading: a line that is empty, or starts with `#`.
@@ -122,16 +111,10 @@ fn is_heading(line: &[u8]) -> bool {
 }
 
 /// Writes the line, and the answer after it.
-pub(crate) fn run(
-    rt: &impl Print,
-    line: &[u8],
-    at: usize,
-    held: Held,
-    buffer: Bytes,
-) -> io::Result<After> {
-    say::text(rt, line)?;
+pub(crate) fn run(rt: &impl Print, line: &[u8], at: usize, kept: Kept) -> io::Result<Kept> {
+    rt.write_all(line)?;
     if is_heading(line) {
-        return Ok(After { held, buffer });
+        return Ok(kept);
     }
-    run_line(rt, line, at, held, buffer)
+    run_line(rt, line, at, kept)
 }

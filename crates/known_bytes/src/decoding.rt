@@ -1,26 +1,13 @@
 //! One-shot decoding: the frame or a refusal, and what the buffer then holds.
-use crate::read::{Parts, Words};
-use crate::{say, words};
-use dec::stream::Frame;
+use crate::read::{Parts, Words, byte};
+use crate::say;
 use std::error::Error;
 use std::io;
-
-pub(crate) fn frame(rt: &impl Print, size: usize, parsed: usize) -> io::Result<()> {
-    say::named(rt, words::FRAME, size)?;
-    say::named(rt, words::PARSED, parsed)
-}
-
-fn answer(rt: &impl Print, found: Result<Frame, impl Error + Drop>) -> io::Result<()> {
-    match found {
-        Ok(Frame { size, parsed }) => frame(rt, size, parsed),
-        Err(e) => print!(rt; "{e}"),
-    }
-}
 
 // A frame's size, or why there is none.
 fn answer_size(rt: &impl Print, found: Result<usize, impl Error + Drop>) -> io::Result<()> {
     match found {
-        Ok(n) => say::named(rt, words::SIZE, n),
+        Ok(n) => print!(rt; "size {n}"),
         Err(e) => print!(rt; "{e}"),
     }
 }
@@ -42,11 +29,9 @@ impl Call {
             ("decode", [], Parts::Both) => Some(Call::Decode),
             ("decode_in_place", [], Parts::On) => Some(Call::DecodeInPlace),
             ("decode_in_place_report", [], Parts::On) => Some(Call::DecodeInPlaceReport),
-            ("decode_with_sentinel", [n], Parts::Both) => Some(Call::DecodeWithSentinel(
-                (*n % 256) as u8,
-            )),
+            ("decode_with_sentinel", [n], Parts::Both) => Some(Call::DecodeWithSentinel(byte(*n))),
             ("decode_in_place_with_sentinel", [n], Parts::On) => Some(
-                Call::DecodeInPlaceWithSentinel((*n % 256) as u8),
+                Call::DecodeInPlaceWithSentinel(byte(*n)),
             ),
             _ => None,
         }
@@ -55,9 +40,11 @@ impl Call {
 
 pub(crate) fn run(rt: &impl Print, call: Call, src: &[u8], dest: &mut [u8]) -> io::Result<()> {
     match call {
-        Call::Decode => answer(rt, dec::decode::decode(src, dest))?,
+        Call::Decode => say::answer(rt, dec::decode::decode(src, dest))?,
         Call::DecodeInPlace => answer_size(rt, place::place::decode_in_place(dest))?,
-        Call::DecodeInPlaceReport => { answer(rt, place::place::decode_in_place_report(dest))? }
+        Call::DecodeInPlaceReport => {
+            say::answer(rt, place::place::decode_in_place_report(dest))?
+        }
         Call::DecodeWithSentinel(sentinel) => answer_size(
             rt,
             place::sentinel::decode_with_sentinel(src, dest, sentinel),

@@ -1,5 +1,5 @@
 //! One-shot encoding: the length or a refusal, and what the buffer then holds.
-use crate::read::{Parts, Words};
+use crate::read::{Parts, Words, byte};
 use crate::{holding, say};
 use std::io;
 
@@ -24,9 +24,7 @@ impl Call {
             ("try_encode_including_sentinels", [], Parts::Both) => Some(
                 Call::TryEncodeIncludingSentinels,
             ),
-            ("encode_with_sentinel", [n], Parts::Both) => Some(Call::EncodeWithSentinel(
-                (*n % 256) as u8,
-            )),
+            ("encode_with_sentinel", [n], Parts::Both) => Some(Call::EncodeWithSentinel(byte(*n))),
             ("encode_two", [cut], Parts::Both) => Some(Call::EncodeTwo(*cut)),
             _ => None,
         }

@@ -1,27 +1,9 @@
 //! The decoder in pieces: it and its buffer stay from line to line.
-use crate::read::{Parts, Words};
-use crate::{decoding, read, say, words};
-use dec::state::{DecodeResult, DecoderState, EarlyZero, Stepped};
-use dec::stream::{CobsDecoder, Frame, PushError, Pushed};
+use crate::read::{Parts, Words, byte};
+use crate::{read, say};
+use dec::state::{DecoderState, Stepped};
+use dec::stream::{CobsDecoder, Pushed};
 use std::io;
-
-fn state(rt: &impl Print, s: DecoderState) -> io::Result<()> {
-    match s {
-        DecoderState::Idle => say::word(rt, words::IDLE),
-        DecoderState::Grab(n) => say::named(rt, words::GRAB, n as usize),
-        DecoderState::GrabChain(n) => say::named(rt, words::GRAB_CHAIN, n as usize),
-    }
-}
-
-fn shown(rt: &impl Print, d: CobsDecoder) -> io::Result<()> {
-    let s = d.state;
-    say::named(rt, words::PLACE, d.place)?;
-    if d.skip {
-        say::word(rt, words::SKIP)?;
-    }
-    say::word(rt, words::SPACE)?;
-    state(rt, s)
-}
 
 // A decoder at its start, in that state.
 fn at_start(state: DecoderState) -> CobsDecoder {
@@ -32,44 +14,17 @@ fn at_start(state: DecoderState) -> CobsDecoder {
     }
 }
 
-fn result(rt: &impl Print, found: Result<DecodeResult, EarlyZero>) -> io::Result<()> {
-    match found {
-        Ok(DecodeResult::NoData) => say::word(rt, words::NO_DATA),
-        Ok(DecodeResult::DataStart) => say::word(rt, words::DATA_START),
-        Ok(DecodeResult::DataComplete) => say::word(rt, words::DATA_COMPLETE),
-        Ok(DecodeResult::DataContinue(b)) => {
-            say::word(rt, words::DATA_CONTINUE)?;
-            say::byte(rt, b)
-        }
-        Err(e) => print!(rt; "{e}"),
-    }
-}
-
 fn given(rt: &impl Print, stepped: Stepped) -> io::Result<DecoderState> {
-    let found = stepped.result;
-    let after = stepped.state;
-    result(rt, found)?;
-    say::word(rt, words::COMMA)?;
-    state(rt, after)?;
-    Ok(after)
-}
-
-fn answer(rt: &impl Print, found: Result<Option<Frame>, PushError>) -> io::Result<()> {
-    match found {
-        Ok(None) => say::word(rt, words::MORE),
-        Ok(Some(Frame { size, parsed })) => decoding::frame(rt, size, parsed),
-        Err(e) => print!(rt; "{e}"),
-    }
+    say::answer(rt, stepped.result)?;
+    print!(rt; ", {}", stepped.state)?;
+    Ok(stepped.state)
 }
 
 fn answered(rt: &impl Print, pushed: Pushed, dest: &[u8]) -> io::Result<CobsDecoder> {
-    let found = pushed.answer;
-    let next = pushed.next;
-    answer(rt, found)?;
-    say::word(rt, words::COMMA)?;
-    shown(rt, next)?;
+    say::answer_or_more(rt, pushed.answer)?;
+    print!(rt; ", {}", pushed.next)?;
     say::holds(rt, dest)?;
-    Ok(next)
+    Ok(pushed.next)
 }
 
 fn push(rt: &impl Print, d: CobsDecoder, piece: &[u8], dest: &mut [u8]) -> io::Result<CobsDecoder> {
@@ -83,12 +38,12 @@ fn feed(rt: &impl Print, d: CobsDecoder, byte: u8, dest: &mut [u8]) -> io::Resul
 }
 
 fn made(rt: &impl Print, d: CobsDecoder) -> io::Result<CobsDecoder> {
-    shown(rt, d)?;
+    print!(rt; "{d}")?;
     Ok(d)
 }
 
 fn named(rt: &impl Print, s: DecoderState) -> io::Result<CobsDecoder> {
-    state(rt, s)?;
+    print!(rt; "{s}")?;
     Ok(at_start(s))
 }
 
@@ -116,11 +71,11 @@ impl Call {
             ("DecoderState::step", [], Parts::Of) => Some(Call::StateStep),
             ("CobsDecoder::new", [], Parts::On) => Some(Call::New),
             ("DecoderState::new", [], Parts::Neither) => Some(Call::State(DecoderState::new())),
-            ("DecoderState::Grab", [n], Parts::Neither) => Some(Call::State(DecoderState::Grab(
-                (*n % 256) as u8,
-            ))),
+            ("DecoderState::Grab", [n], Parts::Neither) => Some(Call::State(DecoderState::Grab(byte(
+                *n,
+            )))),
             ("DecoderState::GrabChain", [n], Parts::Neither) => Some(Call::State(
-                DecoderState::GrabChain((*n % 256) as u8),
+                DecoderState::GrabChain(byte(*n)),
             )),
             ("CobsDecoder", [place, skip], Parts::Neither | Parts::On) => Some(Call::Given {
                 place: *place,

@@ -1,23 +1,16 @@
 //! Two pieces through the encoder that holds its buffer: what new, push, push and finalize answer.
-use crate::{say, streaming, words};
+use crate::{say, streaming};
 use cobs::refusals::DestBufTooSmall;
 use held::{CobsEncoder, TwoPieces};
 use std::io;
 
-fn opened(rt: &impl Print, found: Result<(), DestBufTooSmall>) -> io::Result<()> {
-    match found {
-        Ok(()) => say::word(rt, words::READY),
-        Err(refusal) => print!(rt; "{refusal}"),
-    }
-}
-
 fn answers(rt: &impl Print, found: TwoPieces) -> io::Result<()> {
-    opened(rt, found.opened)?;
-    say::word(rt, words::COMMA)?;
+    say::done(rt, "Ready", found.opened)?;
+    print!(rt; ", ")?;
     streaming::answer(rt, found.first)?;
-    say::word(rt, words::COMMA)?;
+    print!(rt; ", ")?;
     streaming::answer(rt, found.second)?;
-    say::word(rt, words::COMMA)?;
+    print!(rt; ", ")?;
     say::answer(rt, found.finished)
 }
 

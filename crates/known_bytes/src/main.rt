@@ -20,11 +20,10 @@ mod say;
 mod streaming;
 mod tools;
 mod wires;
-mod words;
 
 ghost use Rattle.std.specs.Prelude.{◌≤◌, IfOk, length};
 
-use cases::Held;
+use cases::{Held, Kept};
 use dec::stream::CobsDecoder;
 use enc::stream::Encoder;
 use read::Bytes;
@@ -33,36 +32,27 @@ use std::io::Read;
 use wire::Wire;
 use wires::Side;
 
-fn start_side() -> Side {
-    let wire = Wire::open(0, b"");
-    Side {
-        wire,
-        buffer: [0; 32],
-    }
-}
-
 fn start() -> Held {
-    let encoder = Encoder::new();
-    let decoder = CobsDecoder::new();
-    let side = start_side();
-    let marks = marks::none();
     Held {
-        encoder,
-        decoder,
-        side,
-        marks,
+        encoder: Encoder::new(),
+        decoder: CobsDecoder::new(),
+        side: Side {
+            wire: Wire::open(0, b""),
+            buffer: [0; 32],
+        },
+        marks: marks::none(),
     }
 }
 
 fn lines(rt: &impl Print, text: &[u8]) -> io::Result<()> {
-    let mut held = start();
-    let mut buffer = Bytes::new();
+    let mut kept = Kept {
+        held: start(),
+        buffer: Bytes::new(),
+    };
     for (number, line) in (1..).zip(text.split_inclusive(|b| *b == b'\n')) {
         let line = line.strip_suffix(b"\n").unwrap_or(line);
-        let after = cases::run(rt, line, number, held, buffer)?;
-        say::end(rt)?;
-        held = after.held;
-        buffer = after.buffer;
+        kept = cases::run(rt, line, number, kept)?;
+        println!(rt)?;
     }
     Ok(())
 }
@@ -86,7 +76,7 @@ fn main(rt: HostRuntime) -> io::Result<()> {
     let mut text = [0u8; 65_536];
     let n = read_full(&mut rt.reader(), &mut text)?;
     if n == text.len() {
-        return say::text(&rt, b"the input is too long\n");
+        return println!(rt; "the input is too long");
     }
     lines(&rt, &text[..n])
 }

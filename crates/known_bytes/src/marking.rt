@@ -1,11 +1,11 @@
 //! Marks: they stay from line to line.
 use crate::read::{Parts, Words};
-use crate::{say, words};
+use crate::say;
 use marks::Marks;
 use std::io;
 
 fn shown(rt: &impl Print, marks: Marks) -> io::Result<Marks> {
-    say::word(rt, words::MARKS)?;
+    print!(rt; "marks")?;
     say::numbers(rt, &marks)?;
     Ok(marks)
 }
@@ -43,9 +43,9 @@ pub(crate) fn run(rt: &impl Print, call: Call, marks: Marks) -> io::Result<Marks
     match call {
         Call::None => return shown(rt, marks::none()),
         Call::Mark(i) => return marked(rt, marks, i),
-        Call::IsMarked(i) => say::flag(rt, marks::is_marked(&marks, i))?,
-        Call::Count => say::number(rt, marks::count(&marks))?,
-        Call::CountBelow(i) => say::number(rt, marks::count_below(&marks, i))?,
+        Call::IsMarked(i) => print!(rt; "{}", marks::is_marked(&marks, i))?,
+        Call::Count => print!(rt; "{}", marks::count(&marks))?,
+        Call::CountBelow(i) => print!(rt; "{}", marks::count_below(&marks, i))?,
     }
     Ok(marks)
 }

@@ -1,6 +1,6 @@
 //! Both states of the wire as numbers, and back.
 use crate::read::{Parts, Words};
-use crate::{say, words};
+use crate::say;
 use numbers::COUNT;
 use std::io;
 use wire::Wire;
@@ -11,8 +11,7 @@ fn write(rt: &impl Print, w: Wire, n: usize, list: &mut [u64]) -> io::Result<()>
         return Ok(());
     };
     numbers::write(w, list);
-    say::word(rt, words::UNIT)?;
-    say::word(rt, words::HOLDS)?;
+    print!(rt; "(); holds")?;
     say::numbers(rt, list)
 }
 
@@ -24,11 +23,11 @@ fn read(rt: &impl Print, n: usize, list: &[u64]) -> io::Result<()> {
     let mut again = [9u64; 74];
     let w = match numbers::read(&list[0..n]) {
         Some(w) => {
-            say::word(rt, words::NAMED)?;
+            print!(rt; "named;")?;
             w
         }
         None => {
-            say::word(rt, words::NOT_NAMED)?;
+            print!(rt; "none;")?;
             Wire::open(0, &[])
         }
     };

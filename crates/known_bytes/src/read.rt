@@ -54,7 +54,7 @@ struct Row {
     byte: u8,
 }
 
-// The words that were read.
+// The words that were read; with no heap, an array of the most numbers.
 #[derive(Clone, Copy)]
 struct Given {
     numbers: [usize; 6],
@@ -228,6 +228,11 @@ pub(crate) fn read(line: &[u8]) -> Option<Case> {
         message: given.message.unwrap_or(Message::Bytes(Bytes::new())),
         buffer: given.buffer,
     })
+}
+
+/// A number, modulo a byte's size.
+pub(crate) fn byte(n: usize) -> u8 {
+    (n % 256) as u8
 }
 
 /// The first byte; 0 if there is none.

@@ -1,16 +1,13 @@
 //! Records: written, read and written again, classed, and as a frame.
 use crate::read::{Parts, Words};
-use crate::{say, words};
-use record::{Class, Record};
+use crate::say;
+use record::Record;
 use std::io;
 
 fn write(rt: &impl Print, item: Record) -> io::Result<()> {
     let done = record::write(item);
-    match done.answer {
-        Ok(()) => say::word(rt, words::DONE)?,
-        Err(e) => print!(rt; "{e}")?,
-    }
-    say::word(rt, words::SEMICOLON)?;
+    say::done(rt, "Done", done.answer)?;
+    print!(rt; ";")?;
     say::bytes(rt, &done.bytes)
 }
 
@@ -27,29 +24,20 @@ fn long(n: usize) -> u32 {
     (n % 4_294_967_296) as u32
 }
 
+// What a line shows of a record; x, y and z show in its bytes.
 fn shown(rt: &impl Print, item: Record) -> io::Result<()> {
     match item {
         Record::Particle {
             batch,
             index,
-            x: _,
-            y: _,
-            z: _,
             weight,
-        } => {
-            say::named(rt, words::PARTICLE, batch as usize)?;
-            say::named(rt, words::INDEX, index as usize)?;
-            say::named(rt, words::WEIGHT, weight as usize)
-        }
+            ..
+        } => print!(rt; "particle {batch} index {index} weight {weight}"),
         Record::Close {
             batch,
             count,
             total,
-        } => {
-            say::named(rt, words::CLOSE, batch as usize)?;
-            say::named(rt, words::COUNT, count as usize)?;
-            say::named(rt, words::TOTAL, total as usize)
-        }
+        } => print!(rt; "close {batch} count {count} total {total}"),
     }
 }
 
@@ -58,7 +46,7 @@ fn read(rt: &impl Print, at: usize, m: &[u8]) -> io::Result<()> {
     match record::read(m, at) {
         Ok(item) => {
             shown(rt, item)?;
-            say::word(rt, words::WRITTEN)?;
+            print!(rt; ", written ")?;
             write(rt, item)
         }
         Err(e) => print!(rt; "{e}"),
@@ -66,12 +54,7 @@ fn read(rt: &impl Print, at: usize, m: &[u8]) -> io::Result<()> {
 }
 
 fn class(rt: &impl Print, theirs: u16, ours: u16) -> io::Result<()> {
-    let found = record::class_of(theirs, ours);
-    match found {
-        Class::Ours => say::word(rt, words::OURS),
-        Class::Ahead => say::word(rt, words::AHEAD),
-        Class::Stale => say::word(rt, words::STALE),
-    }
+    print!(rt; "{}", record::class_of(theirs, ours))
 }
 
 fn frame(rt: &impl Print, message: &[u8], dest: &mut [u8]) -> io::Result<()> {
@@ -127,7 +110,7 @@ pub(crate) fn run(rt: &impl Print, call: Call, m: &[u8], dest: &mut [u8]) -> io:
         Call::Write(item) => write(rt, item),
         Call::Read(at) => read(rt, at, m),
         Call::ClassOf { theirs, ours } => class(rt, theirs, ours),
-        Call::IsBadLength(n) => say::flag(rt, record::frame::is_bad_length(n)),
+        Call::IsBadLength(n) => print!(rt; "{}", record::frame::is_bad_length(n)),
         Call::WriteFrame => frame(rt, m, dest),
     }
 }

@@ -1,30 +1,17 @@
 //! The encoder in pieces: it and its buffer stay from line to line.
 use crate::read::{Parts, Words};
-use crate::{alone, say, words};
-use enc::state::EncoderState;
-use enc::stream::{Encoder, PushError, Pushed};
+use crate::{alone, say};
+use enc::stream::{Encoder, PushError};
 use std::io;
 
-fn shown(rt: &impl Print, e: Encoder) -> io::Result<()> {
-    let state = e.state;
-    alone::shown(rt, state)?;
-    if e.full {
-        say::word(rt, words::FULL)?;
-    }
-    say::named(rt, words::COUNT, e.count)
-}
-
 fn made(rt: &impl Print, encoder: Encoder) -> io::Result<Encoder> {
-    shown(rt, encoder)?;
+    print!(rt; "{encoder}")?;
     Ok(encoder)
 }
 
 fn start(rt: &impl Print, e: Encoder, dest: &[u8]) -> io::Result<Encoder> {
     match Encoder::start(dest) {
-        Ok(encoder) => {
-            shown(rt, encoder)?;
-            Ok(encoder)
-        }
+        Ok(encoder) => made(rt, encoder),
         Err(refusal) => {
             print!(rt; "{refusal}")?;
             Ok(e)
@@ -33,22 +20,15 @@ fn start(rt: &impl Print, e: Encoder, dest: &[u8]) -> io::Result<Encoder> {
 }
 
 pub(crate) fn answer(rt: &impl Print, found: Result<(), PushError>) -> io::Result<()> {
-    match found {
-        Ok(()) => say::word(rt, words::ACCEPTED),
-        Err(refusal) => print!(rt; "{refusal}"),
-    }
+    say::done(rt, "Accepted", found)
 }
 
 fn push(rt: &impl Print, e: Encoder, piece: &[u8], dest: &mut [u8]) -> io::Result<Encoder> {
-    let Pushed {
-        answer: found,
-        next,
-    } = e.push(dest, piece);
-    answer(rt, found)?;
-    say::word(rt, words::COMMA)?;
-    shown(rt, next)?;
+    let pushed = e.push(dest, piece);
+    answer(rt, pushed.answer)?;
+    print!(rt; ", {}", pushed.next)?;
     say::holds(rt, dest)?;
-    Ok(next)
+    Ok(pushed.next)
 }
 
 fn finish(rt: &impl Print, e: Encoder, dest: &mut [u8]) -> io::Result<Encoder> {

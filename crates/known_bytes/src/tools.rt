@@ -1,18 +1,7 @@
 //! Sixteen bytes at once, and a front XORed.
-use crate::read::{Parts, Words};
-use crate::{say, words};
-use blocks::Taken;
+use crate::read::{Parts, Words, byte};
+use crate::say;
 use std::io;
-
-fn taken(rt: &impl Print, found: Taken) -> io::Result<()> {
-    let k = match found {
-        Taken::Nothing => words::NOTHING,
-        Taken::Clear => words::CLEAR,
-        Taken::Zeros => words::ZEROS,
-        Taken::Mixed => words::MIXED,
-    };
-    say::word(rt, k)
-}
 
 /// `clear16 AT of BYTES`, `all16 AT VALUE of BYTES`, `take16 AT FROM of SOURCE on BUFFER`, `copy16 AT FROM of SOURCE on BUFFER`,
 /// `fill16 AT VALUE on BUFFER`, `mask COUNT SENTINEL on BUFFER`.
@@ -30,14 +19,11 @@ impl Call {
     pub(crate) fn named(words: Words) -> Option<Call> {
         match words {
             ("clear16", [at], Parts::Of) => Some(Call::Clear16(*at)),
-            ("all16", [at, value], Parts::Of) => Some(Call::All16(*at, (*value % 256) as u8)),
+            ("all16", [at, value], Parts::Of) => Some(Call::All16(*at, byte(*value))),
             ("take16", [at, from], Parts::Both) => Some(Call::Take16(*at, *from)),
             ("copy16", [at, from], Parts::Both) => Some(Call::Copy16(*at, *from)),
-            ("fill16", [at, value], Parts::On) => Some(Call::Fill16(*at, (*value % 256) as u8)),
-            ("mask", [count, sentinel], Parts::On) => Some(Call::Mask(
-                *count,
-                (*sentinel % 256) as u8,
-            )),
+            ("fill16", [at, value], Parts::On) => Some(Call::Fill16(*at, byte(*value))),
+            ("mask", [count, sentinel], Parts::On) => Some(Call::Mask(*count, byte(*sentinel))),
             _ => None,
         }
     }
@@ -45,10 +31,10 @@ impl Call {
 
 pub(crate) fn run(rt: &impl Print, call: Call, m: &[u8], dest: &mut [u8]) -> io::Result<()> {
     match call {
-        Call::Clear16(at) => say::flag(rt, blocks::clear16(m, at)),
-        Call::All16(at, value) => say::flag(rt, blocks::all16(m, at, value)),
+        Call::Clear16(at) => print!(rt; "{}", blocks::clear16(m, at)),
+        Call::All16(at, value) => print!(rt; "{}", blocks::all16(m, at, value)),
         Call::Take16(at, from) => {
-            taken(rt, blocks::take16(dest, at, m, from))?;
+            print!(rt; "{}", blocks::take16(dest, at, m, from))?;
             say::holds(rt, dest)
         }
         Call::Copy16(at, from) => {

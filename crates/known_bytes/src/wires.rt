@@ -1,11 +1,10 @@
 //! From the wire to the receiver: both states stay from line to line.
 use crate::read::{Parts, Words};
-use crate::{say, words};
-use batch::Standing;
+use crate::say;
 use dec::state::DecoderState;
 use dec::stream::CobsDecoder;
 use std::io;
-use wire::{Refusal, Wire};
+use wire::Wire;
 
 /// Both states, and the decoder's buffer.
 #[derive(Clone, Copy)]
@@ -14,19 +13,9 @@ pub(crate) struct Side {
     pub buffer: [u8; 32],
 }
 
-fn answer(rt: &impl Print, found: Result<Option<Standing>, Refusal>) -> io::Result<()> {
-    match found {
-        Ok(None) => say::word(rt, words::MORE),
-        Ok(Some(standing)) => print!(rt; "{standing}"),
-        Err(refusal) => print!(rt; "{refusal}"),
-    }
-}
-
 fn open(rt: &impl Print, number: u16, table: &[u8]) -> io::Result<Wire> {
     let w = Wire::open(number, table);
-    let r = w.receiver;
-    say::named(rt, words::BATCH, r.batch as usize)?;
-    say::named(rt, words::SLOTS, r.slots)?;
+    print!(rt; "batch {}, slots {}", w.receiver.batch, w.receiver.slots)?;
     Ok(w)
 }
 
@@ -38,12 +27,12 @@ fn receive(
     table: &mut [u8],
 ) -> io::Result<Wire> {
     let receipt = wire::receive(w, buffer, table, piece);
-    let found = receipt.answer;
     let next = receipt.next;
-    let r = next.receiver;
-    answer(rt, found)?;
-    say::named(rt, words::CONSUMED, receipt.consumed)?;
-    say::named(rt, words::THEN_TOTAL, r.total as usize)?;
+    say::answer_or_more(rt, receipt.answer)?;
+    print!(rt;
+        ", consumed {}; total {}",
+        receipt.consumed, next.receiver.total
+    )?;
     say::holds(rt, table)?;
     Ok(next)
 }
@@ -65,7 +54,7 @@ fn brought(
 
 // A decoder at that write place, and idle.
 fn decoder(rt: &impl Print, place: usize) -> io::Result<CobsDecoder> {
-    say::named(rt, words::PLACE, place)?;
+    print!(rt; "place {place}")?;
     Ok(CobsDecoder {
         place,
         skip: false,
@@ -74,16 +63,15 @@ fn decoder(rt: &impl Print, place: usize) -> io::Result<CobsDecoder> {
 }
 
 fn with_decoder(held: Side, decoder: CobsDecoder) -> Side {
-    let w = held.wire;
-    let receiver = w.receiver;
-    let buffer = held.buffer;
-    let wire = Wire { decoder, receiver };
-    Side { wire, buffer }
+    let wire = Wire {
+        decoder,
+        ..held.wire
+    };
+    Side { wire, ..held }
 }
 
 fn with_wire(held: Side, wire: Wire) -> Side {
-    let buffer = held.buffer;
-    Side { wire, buffer }
+    Side { wire, ..held }
 }
 
 /// `Wire::open BATCH on TABLE`, `wire::receive ROOM of PIECE` with so many bytes for the decoder, and `Wire::decoder PLACE`.

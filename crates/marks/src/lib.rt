@@ -4,7 +4,8 @@
 ghost use Rattle.std.specs.Prelude.{◌≡◌, ◌<◌, ◌^◌, get_or, sum_by};
 ghost use Rattle.marks.specs.Marks.{bit_at, with_bit, no_marks, marked, set_mark, count_below, marked_below};
 
-/// The words that hold the marks. No struct: `numbers_of` and `wire_in` (crates/numbers), by which C keeps a state, list these words.
+/// The words that hold the marks. No struct: the Receiver's field and C's numbers (`numbers_of`) are these words, and no function
+/// needs more than the words have.
 pub type Marks = [u64; 64];
 
 /// No index is marked.
@@ -25,7 +26,7 @@ pub fn is_marked(marks: &Marks, i: usize) -> bool
 pub fn mark(marks: &mut Marks, i: usize)
     ensures { marks.new ≡ set_mark marks.old i }
 {
-    // By index: of what is written through `get_mut` of an array no proof finds an element.
+    // By index: tried by `if let Some(w) = marks.get_mut(k)`, and no proof is seen: the words afterwards come into the goal by no fact.
     let k = i / 64;
     if k < marks.len() {
         marks[k] = with_bit(marks[k], (i % 64) as u64);

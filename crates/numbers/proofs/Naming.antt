@@ -184,8 +184,3 @@ written_read ns w f words long = rw (eq-eqb (length ns) 74 long) (own_read w f w
 pub other-read : (ns : List ℕ) (w : Wire) → length ns ≢ 74 → read_of ns ≡ read_back ns w
 unfolding read_of names read_back
 other-read ns w h = rw (ne_eqb (length ns) 74 h)
-
--- a field of the head, by the numbers of its part
-pub fits_by : (w : Wire) (kind left taken count total : ℕ) → kind ∷ left ∷ [] ≡ state_numbers w.decoder.state → left < 256
-    → taken ∷ count ∷ total ∷ [] ≡ close_numbers w.receiver.close → total < 4_294_967_296 → w.receiver.total < 4_294_967_296 → w.receiver.batch < 65_536 → Fits w
-fits_by w kind left taken count total es l ec t rt rb = record { left = rw (← es) l; total = rt; closed = rw (← ec) t; batch = rb }

@@ -8,6 +8,8 @@ use dec::state::DecoderState;
 use dec::stream::CobsDecoder;
 use wire::Wire;
 
+// Numbers for a state's kind and for whether a close is taken, since C keeps both as numbers: `state_numbers` and `close_numbers` of specs/.
+// crates/probe turns a decoder's state into numbers too: each list of numbers, 74 and four, is a C form of its own.
 #[derive(Clone, Copy, Debug, PartialEq, Eq)]
 struct StateNumbers {
     kind: u64,
@@ -60,12 +62,9 @@ pub(crate) fn head_of(wire: Wire) -> [u64; 10]
     ensures head { result ≡ head_of wire }
     ensures fits { Fits wire }
 {
-    let decoder = wire.decoder;
-    let receiver = wire.receiver;
-    let at = decoder.state;
-    let taken = receiver.close;
-    let state = state_numbers(at);
-    let close = close_numbers(taken);
+    let Wire { decoder, receiver } = wire;
+    let state = state_numbers(decoder.state);
+    let close = close_numbers(receiver.close);
     [
         decoder.place as u64,
         u64::from(decoder.skip),

@@ -13,6 +13,7 @@ ghost use Rattle.dec.specs.State.{stepped, given_told};
 ghost use Rattle.dec.specs.Stream.{push_dest as decode_dest};
 ghost use Rattle.probe.specs.Numbers.{encoder_of, decoder_of, state_from, tag, to_come, start_told, start_numbers, push_numbers, decoded, decode_numbers};
 
+use dec::state::Stepped;
 use enc::stream::Encoder;
 use numbers::{decoder_of, encoder_of, put_decoder, put_encoder, state_from, tag, to_come};
 use told::{accepted, answered, finished, gave, placed};
@@ -41,13 +42,11 @@ pub extern "C" fn probe_encoder_push(state: &mut [u64], dest: &mut [u8], piece: 
     ensures memory { dest.new ≡ push_dest (encoder_of state.old) piece.now dest.old }
 {
     let encoder = encoder_of(state);
-    let pushed = encoder.push(dest, piece);
-    let answer = pushed.answer;
+    let enc::stream::Pushed { next, answer } = encoder.push(dest, piece);
     let number = accepted(answer);
     if number != 0 {
         return number;
     }
-    let next = pushed.next;
     put_encoder(next, state);
     0
 }
@@ -76,13 +75,11 @@ pub extern "C" fn probe_decoder_push(
     ensures memory { dest.new ≡ decode_dest (decoder_of state.old) piece.now dest.old }
 {
     let decoder = decoder_of(state);
-    let pushed = decoder.push(dest, piece);
-    let answer = pushed.answer;
+    let dec::stream::Pushed { next, answer } = decoder.push(dest, piece);
     let number = answered(answer, size, consumed);
     if number == 6 {
         return 6;
     }
-    let next = pushed.next;
     put_decoder(next, state);
     number
 }
@@ -101,9 +98,10 @@ pub extern "C" fn probe_decoder_step(
     ensures rest { left.new ≡ to_come (stepped (state_from state.old left.old) byte).state }
 {
     let before = state_from(*state, *left);
-    let stepped = before.step(byte);
-    let after = stepped.state;
-    let result = stepped.result;
+    let Stepped {
+        state: after,
+        result,
+    } = before.step(byte);
     *state = tag(after);
     *left = to_come(after);
     gave(result, given, place)

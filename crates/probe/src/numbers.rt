@@ -56,6 +56,7 @@ fn no_decoder() -> CobsDecoder
     }
 }
 
+// A number for the state's kind, since it comes from C. Here and in crates/numbers: each list of numbers, four and 74, is a C form of its own.
 pub(crate) fn state_from(tag: u64, left: u8) -> DecoderState
     ensures { result ≡ state_from tag left }
 {
@@ -69,10 +70,7 @@ pub(crate) fn state_from(tag: u64, left: u8) -> DecoderState
 fn decoder_from(place: u64, skip: u64, tag: u64, left: u64) -> CobsDecoder
     ensures { result ≡ decoder_from place skip tag left }
 {
-    if 1 < skip {
-        return no_decoder();
-    }
-    if 2 < tag {
+    if 1 < skip || 2 < tag {
         return no_decoder();
     }
     let Ok(left) = u8::try_from(left) else {
@@ -109,8 +107,7 @@ pub(crate) fn to_come(state: DecoderState) -> u8
 {
     match state {
         DecoderState::Idle => 0,
-        DecoderState::Grab(left) => left,
-        DecoderState::GrabChain(left) => left,
+        DecoderState::Grab(left) | DecoderState::GrabChain(left) => left,
     }
 }
 

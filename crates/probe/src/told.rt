@@ -1,4 +1,5 @@
-//! Each answer as its number, with its values behind the out-parameters.
+//! Each answer as C has it: its number, with its values behind the out-parameters. No trait as in `capi`: of these five no two have the same
+//! refusals, and each has one caller.
 ghost use Rattle.std.specs.Prelude.{◌≡◌};
 ghost use Rattle.cobs.specs.Answers.{tell};
 ghost use Rattle.enc.specs.Stream.{told as accepted_told, told_finished};

@@ -1,4 +1,5 @@
 -- Two results that meet a function's promise are equal, for every public function. Assumes nothing.
+use Rattle.std.specs.Prelude.{⊤}
 use Rattle.std.proofs.Common.{◌≡◌, ℕ, Bool, eqb, List, length, drop, Result, Ok, Err, sym, refl, ◌∙◌, ap₂, if◌then◌else◌}
 use Rattle.cobs.specs.Answers.{Told, is_done}
 use Rattle.cobs.proofs.Told.{one-result}
@@ -14,10 +15,10 @@ use Rattle.record.proofs.Valid.{class-told}
 
 -- ---- reading an answer back from what tells it
 
-back_write : Told → Result Unit BadRecord
+back_write : Told → Result ⊤ BadRecord
 back_write t = if is_done t then Ok tt else Err record {}
 
-write-back : (a : Result Unit BadRecord) → back_write (told_write a) ≡ a
+write-back : (a : Result ⊤ BadRecord) → back_write (told_write a) ≡ a
 unfolding back_write
 write-back (Ok _) = refl
 write-back (Err _) = refl
@@ -42,7 +43,7 @@ pub unique-write : (item : Record) (r s : Written)
     → told_write r.answer ≡ write_told 0 item → r.bytes ≡ written_bytes 0 item
     → told_write s.answer ≡ write_told 0 item → s.bytes ≡ written_bytes 0 item → r ≡ s
 unique-write item r s a b c d =
-    ap₂ {C = Written} (λ (x : Result Unit BadRecord) (y : List ℕ). record { answer = x; bytes = y })
+    ap₂ {C = Written} (λ (x : Result ⊤ BadRecord) (y : List ℕ). record { answer = x; bytes = y })
     (one-result told_write back_write write-back a c) (b ∙ sym d)
 
 pub unique-read : (s : List ℕ) (at : ℕ) (a b : Result Record BadRecord) → a ≡ read_of 0 (drop at s) → b ≡ read_of 0 (drop at s) → a ≡ b

@@ -1,5 +1,5 @@
 -- 01 "Particle records": a frame carries 1 to 15 records; what its writer answers, and what it leaves. Assumes nothing.
-use Rattle.std.specs.Prelude.{ℕ, zero, suc, ◌/◌, ◌%◌, Bool, not, ◌||◌, List, [], ◌∷◌, ◌++◌, length, drop, Result, Ok, Err, ◌==◌, if◌then◌else◌}
+use Rattle.std.specs.Prelude.{ℕ, zero, suc, ◌/◌, ◌%◌, Bool, not, ◌||◌, List, [], ◌∷◌, ◌++◌, length, drop, Result, Ok, Err, ⊤, ◌==◌, if◌then◌else◌}
 use Rattle.cobs.specs.Words.{◌exceeds◌}
 use Rattle.cobs.specs.Code.{encode, over}
 use Rattle.cobs.specs.Answers.{Told, done, dest_buf_too_small, bad_length, bad_record, is_done, if_done}
@@ -48,6 +48,6 @@ unfoldable pub frame_dest : (m d : List ℕ) → List ℕ
 frame_dest m d = if_done (frame_told m (length d)) (over (framed m) d) d
 
 -- What the helper that checks the records found. No public promise cites it.
-abbrev pub told_checked : Result Unit FrameError → Told
+abbrev pub told_checked : Result ⊤ FrameError → Told
 told_checked (Ok _) = done 0 0
 told_checked (Err e) = told_refusal e

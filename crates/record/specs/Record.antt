@@ -1,5 +1,5 @@
 -- 01 "Particle records": a record's fields, their ranges and its bytes, and what writing and reading it answer. Assumes nothing.
-use Rattle.std.specs.Prelude.{ℕ, suc, ◌+◌, ◌-◌, ◌*◌, ◌/◌, ◌%◌, Bool, ◌&&◌, ◌||◌, List, [], ◌∷◌, ◌++◌, length, replicate, ℤ, Result, Ok, Err, pos, negsuc, ◌==◌, nat_le, slice_index, if◌then◌else◌}
+use Rattle.std.specs.Prelude.{ℕ, suc, ◌+◌, ◌-◌, ◌*◌, ◌/◌, ◌%◌, Bool, ◌&&◌, ◌||◌, List, [], ◌∷◌, ◌++◌, length, replicate, ℤ, Result, Ok, Err, ⊤, pos, negsuc, ◌==◌, nat_le, slice_index, if◌then◌else◌}
 use Rattle.cobs.specs.Answers.{Told, done, bad_record, stale, ahead, is_done}
 use Rattle.record.specs.declared.Record.{Record}
 use Rattle.record.specs.declared.Record.TheVariants.{Particle, Close}
@@ -86,7 +86,7 @@ is_valid board f = f.board == board && (is_particle f || is_close f)
 -- ---- The writer and the reader
 
 -- What the writer answers, told.
-abbrev pub told_write : Result Unit BadRecord → Told
+abbrev pub told_write : Result ⊤ BadRecord → Told
 told_write (Ok _) = done 0 0
 told_write (Err _) = bad_record 0
 

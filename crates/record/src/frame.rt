@@ -42,6 +42,7 @@ pub fn write_frame(message: &[u8], dest: &mut [u8]) -> Result<usize, FrameError>
     }
     // The last byte is kept for the zero.
     let room = dest.len() - 1;
+    // It refuses for room alone: the most of a message, 240 bytes, is never TooLong.
     let Ok(n) = enc::oneshot::encode(message, &mut dest[..room]) else {
         return Err(FrameError::DestBufTooSmall);
     };

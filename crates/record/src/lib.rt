@@ -69,11 +69,26 @@ pub enum Class {
     Stale,
 }
 
+impl fmt::Display for Class {
+    fn fmt<W: fmt::Write>(&self, f: &mut fmt::Formatter<W>) -> fmt::Result {
+        f.write_str(match self {
+            Class::Ours => "Ours",
+            Class::Ahead => "Ahead",
+            Class::Stale => "Stale",
+        })
+    }
+}
+
 /// The most that a particle may weigh.
 pub const MOST_WEIGHT: u32 = 1_000_000;
 
 /// The most particles of a batch.
 pub const MOST_PARTICLES: u16 = 4_096;
+
+// The kinds of record, as their byte has them.
+const PARTICLE: u8 = 1;
+
+const CLOSE: u8 = 2;
 
 /// The record's 16 bytes. A field outside its range is refused, and all bytes are then 0.
 #[tactic(auto, unfolding(crate::specs::Record::write_told, crate::specs::Record::written_bytes))]
@@ -129,8 +144,8 @@ fn is_valid(f: Fields) -> bool
 {
     f.board == 0
         && match f.kind {
-            1 => f.weight <= MOST_WEIGHT,
-            2 => f.index <= MOST_PARTICLES && f.x == 0 && f.y == 0 && f.z == 0,
+            PARTICLE => f.weight <= MOST_WEIGHT,
+            CLOSE => f.index <= MOST_PARTICLES && f.x == 0 && f.y == 0 && f.z == 0,
             _ => false,
         }
 }
@@ -153,7 +168,7 @@ fn fields_for(item: Record) -> Fields
             x: x.cast_unsigned(),
             y: y.cast_unsigned(),
             z: z.cast_unsigned(),
-            kind: 1,
+            kind: PARTICLE,
             board: 0,
             weight,
         },
@@ -167,7 +182,7 @@ fn fields_for(item: Record) -> Fields
             x: 0,
             y: 0,
             z: 0,
-            kind: 2,
+            kind: CLOSE,
             board: 0,
             weight: total,
         },
@@ -178,7 +193,7 @@ fn fields_for(item: Record) -> Fields
 fn record_in(f: Fields) -> Record
     ensures { result ≡ record_in f }
 {
-    if f.kind == 1 {
+    if f.kind == PARTICLE {
         return Record::Particle {
             batch: f.batch,
             index: f.index,
@@ -202,8 +217,8 @@ fn holds(s: &[u8], at: usize) -> bool
     frame::SIZE <= s.len().saturating_sub(at)
 }
 
-#[tactic(auto, unfolding(crate::specs::Record::fields_of))]
 // The fields of the record that s starts with.
+#[tactic(auto, unfolding(crate::specs::Record::fields_of))]
 fn fields_of(s: &[u8]) -> Fields
     requires { 16 ≤ length s.now }
     ensures { result ≡ fields_of s.now }

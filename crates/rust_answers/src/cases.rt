@@ -79,7 +79,7 @@ fn held_to<R: Read + Drop>(
     let dest = &mut dest[..room];
     prepare(call, source, dest);
     let ours = calls::answer(call, &source[..n], dest).unwrap_or(NO_ANSWER);
-    if ours == told && *dest == *&theirs[..room] {
+    if ours == told && dest[..] == theirs[..room] {
         return Ok(true);
     }
     say::differs(rt, line, ours)?;

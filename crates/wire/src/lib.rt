@@ -13,13 +13,14 @@ use std::error::Error;
 use std::fmt;
 
 /// Both states of a receiving side: the decoder's, and the receiver's.
-#[derive(Clone, Copy)]
+#[derive(Clone, Copy, Debug, PartialEq, Eq)]
 pub struct Wire {
     pub decoder: CobsDecoder,
     pub receiver: Receiver,
 }
 
-/// Why a piece or the frame it ended is refused, by the decoder or by the receiver.
+/// Why a piece or the frame it ended is refused, by the decoder or by the receiver. Flat: 01's refusals by name, and BadState of
+/// either state is one case, which a nested enum would have twice.
 #[derive(Clone, Copy, Debug, PartialEq, Eq)]
 pub enum Refusal {
     InvalidFrame { decoded: usize },
@@ -72,7 +73,7 @@ impl Error for Refusal {}
 
 /// The states after a call, its answer, and how many bytes of the piece it took. The answer is how the batch stands after the
 /// frame that ended in the piece, or none if no frame ended in it.
-#[derive(Clone, Copy)]
+#[derive(Clone, Copy, Debug, PartialEq, Eq)]
 pub struct Receipt {
     pub next: Wire,
     pub answer: Result<Option<Standing>, Refusal>,
@@ -97,6 +98,7 @@ fn said(answer: Result<Standing, batch::Refusal>) -> Result<Option<Standing>, Re
     Ok(Some(answer?))
 }
 
+// The two states by themselves: taken as one `Wire`, a frame of one record costs 2,806 instructions for 2,620.
 fn handed(
     decoder: CobsDecoder,
     receiver: Receiver,

@@ -5,6 +5,6 @@ use Rattle.probe.proofs.probe_decoder_step.Goals as goal
 pub returns : goal.returns
 returns c =
     let a = c.args in
-    let both = step-told a.state.now a.left.now a.byte _ _ _ _ _ _ c.step-stepped.result c.state_from-before.ensures (c.step-stepped.ensures.step, c.step-stepped.ensures.answer)
+    let both = step-told a.state.now a.left.now a.byte _ _ _ _ _ _ c.step-after.result c.state_from-before.ensures (c.step-after.ensures.step, c.step-after.ensures.answer)
     c.gave.ensures c.tag.ensures c.to_come.ensures in
     record { answer = both.0; next = both.1.0; rest = both.1.1 }

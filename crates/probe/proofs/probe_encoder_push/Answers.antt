@@ -6,7 +6,7 @@ use Rattle.probe.proofs.probe_encoder_push.Goals as goal
 pub returns-then-number-ne0 : goal.returns-then-number-ne0
 returns-then-number-ne0 c =
     let a = c.args in
-    let pushed = c.push-pushed in
+    let pushed = c.push-answer in
     let both = push-refused a.state.now a.piece.now a.dest.now _ _ c.encoder_of-encoder.ensures _
     (c.accepted-number.ensures ∙ pushed.ensures.answer) pushed.ensures.memory c.if-number-ne0.true in
     record { answer = both.0; next = both.1.0; memory = both.1.1 }
@@ -14,7 +14,7 @@ returns-then-number-ne0 c =
 pub returns : goal.returns
 returns c =
     let a = c.args in
-    let pushed = c.push-pushed in
+    let pushed = c.push-answer in
     let both = push-accepted a.state.now a.piece.now a.dest.now _ _
     c.encoder_of-encoder.ensures _
     (c.accepted-number.ensures ∙ pushed.ensures.answer) pushed.ensures.memory _ _

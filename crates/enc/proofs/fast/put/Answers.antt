@@ -1,11 +1,13 @@
 -- `enc::fast::put` meets its contract. Assumes nothing.
-use Prim.Native.Nat.{◌+◌, ◌<◌}
+use mathlib.Core.Path.{◌≡◌, ap, ◌∙◌}
+use Prim.Native.Nat.{◌+◌, ◌-◌, ◌<◌, ◌≤◌}
+use mir.Val.{bool_byte}
+use borrow.Author.Tests.{lt-ltb, le-ltb}
 use native.Mathlib.Omega.{arith}
 use lib.ListN.{length}
 use Rattle.enc.proofs.Opens.{kept_on, all-written, kept-code, close-end, inside}
 use Rattle.enc.proofs.Turns.{group-turn}
 use Rattle.enc.proofs.fast.put.Goals as goal
-use Rattle.enc.proofs.fast.put.Goals.{then-at-s-lt-FULL_LENGTH, else-at-s-lt-FULL_LENGTH}
 
 pub bounds-dest-s : goal.bounds-dest-s
 bounds-dest-s c = omega (arith, inside c.bytes-n.ensures.next.0)
@@ -20,9 +22,12 @@ pub loop-s-preserved : goal.loop-s-preserved
 loop-s-preserved c =
     let e = c.bytes-n.ensures.next in
     let s = c.loop-s.s in
-    let l : s.from + c.bytes-n.result < length c.args.src.now = omega (arith, e.0.within, c.if-from-src.false) in
-    let t = group-turn c.args.src.now (s.from + c.bytes-n.result) s.place (s.at + c.bytes-n.result) c.bytes-n.new.dest e.0 l (λ p. e.1.stops l (omega arith))
-    (s.from + c.bytes-n.result + c.if-at-s-lt-FULL_LENGTH.zero)
-    (λ p. elim c.if-at-s-lt-FULL_LENGTH.branch [ then-at-s-lt-FULL_LENGTH w ↦ omega arith | else-at-s-lt-FULL_LENGTH w ↦ absurd (omega arith) ])
-    (λ p. elim c.if-at-s-lt-FULL_LENGTH.branch [ then-at-s-lt-FULL_LENGTH w ↦ absurd (omega arith) | else-at-s-lt-FULL_LENGTH w ↦ omega arith ]) in
+    let i = s.from + c.bytes-n.result in
+    let out = s.at + c.bytes-n.result in
+    let l : i < length c.args.src.now = omega (arith, e.0.within, c.if-from-src.false) in
+    let zero : out - s.place < 255 → c.from-zero.result ≡ 1 = λ p. c.from-zero.ensures ∙ ap bool_byte (lt-ltb _ _ p) in
+    let none : 255 ≤ out - s.place → c.from-zero.result ≡ 0 = λ p. c.from-zero.ensures ∙ ap bool_byte (le-ltb _ _ p) in
+    let t = group-turn c.args.src.now i s.place out c.bytes-n.new.dest e.0 l (λ p. e.1.stops l (omega arith)) (i + c.from-zero.result)
+    (λ p. omega (arith, zero (omega arith)))
+    (λ p. omega (arith, none (omega arith))) in
     (t, kept_on (kept_on c.loop-s.invariant.1 c.bytes-n.ensures.kept) (kept-code _ _ _ _ _ _ e.0), omega arith)

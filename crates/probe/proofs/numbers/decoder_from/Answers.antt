@@ -3,15 +3,16 @@ use native.Mathlib.Omega.{arith}
 use borrow.Author.Tests.{lt-ltb, le-ltb}
 use Prim.Native.Nat.{◌≤◌, ◌<◌}
 use Rattle.probe.specs.Numbers.{decoder_from}
+use Rattle.probe.proofs.numbers.decoder_from.Goals.{then-skip-gt1-via-then-skip-gt1, then-skip-gt1-via-else-skip-gt1+then-tag-gt2}
 use Rattle.probe.proofs.numbers.decoder_from.Goals as goal
 
 pub returns-then-skip-gt1 : goal.returns-then-skip-gt1
 unfolding decoder_from
-returns-then-skip-gt1 c = simp (c.no_decoder.ensures, lt-ltb _ _ c.if-skip-gt1.true)
-
-pub returns-then-tag-gt2 : goal.returns-then-tag-gt2
-unfolding decoder_from
-returns-then-tag-gt2 c = simp (c.no_decoder-then-tag-gt2.ensures, le-ltb _ _ c.if-skip-gt1.false, lt-ltb _ _ c.if-tag-gt2.true)
+returns-then-skip-gt1 c =
+    elim c.then-skip-gt1.branch [
+      | then-skip-gt1-via-then-skip-gt1 w ↦ simp (c.no_decoder.ensures, lt-ltb _ _ w.if-skip-gt1.true)
+      | then-skip-gt1-via-else-skip-gt1+then-tag-gt2 w ↦ simp (c.no_decoder.ensures, le-ltb _ _ w.if-skip-gt1.false, lt-ltb _ _ w.if-tag-gt2.true)
+    ]
 
 pub returns-in_default : goal.returns-in_default
 unfolding decoder_from

@@ -1,6 +1,6 @@
--- `batch::state::limit` meets its contract. Assumes nothing.
+-- `batch::Receiver::limit` meets its contract. Assumes nothing.
 use Rattle.batch.proofs.Ways.{limit-open, limit-taken}
-use Rattle.batch.proofs.state.limit.Goals as goal
+use Rattle.batch.proofs.Receiver.limit.Goals as goal
 
 pub returns-in-None : goal.returns-in-None
 returns-in-None c = search (limit-open)

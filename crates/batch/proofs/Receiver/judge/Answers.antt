@@ -1,6 +1,6 @@
--- `batch::judge::judge` meets its contract. Assumes nothing.
+-- `batch::Receiver::judge` meets its contract. Assumes nothing.
 use Rattle.batch.proofs.Ways.{judge-bad, judge-ahead, judge-stale, judge-ours}
-use Rattle.batch.proofs.judge.judge.Goals as goal
+use Rattle.batch.proofs.Receiver.judge.Goals as goal
 
 pub returns-in_default : goal.returns-in_default
 returns-in_default c = search (judge-bad)

@@ -1,9 +1,9 @@
--- `batch::judge::close` meets its contract. Assumes nothing.
+-- `batch::Receiver::close` meets its contract. Assumes nothing.
 use Rattle.batch.proofs.Ways.{close-room, close-unlike, close_repeat, close-marked, close-new}
-use Rattle.batch.proofs.judge.close.Goals as goal
+use Rattle.batch.proofs.Receiver.close.Goals as goal
 
-pub returns-then-close-r : goal.returns-then-close-r
-returns-then-close-r c = search (close-room)
+pub returns-then-close-self : goal.returns-then-close-self
+returns-then-close-self c = search (close-room)
 
 pub returns-then-count-count_below : goal.returns-then-count-count_below
 returns-then-count-count_below c = search (close-marked)

@@ -1,9 +1,9 @@
--- `batch::state::apply` meets its contract. Assumes nothing.
+-- `batch::Receiver::apply` meets its contract. Assumes nothing.
 use Rattle.batch.proofs.Effects.{after_repeat, after_store, after-close, sum_fits}
-use Rattle.batch.proofs.state.apply.Goals as goal
+use Rattle.batch.proofs.Receiver.apply.Goals as goal
 
-pub overflow_add-r : goal.overflow_add-r
-overflow_add-r c = search (sum_fits)
+pub overflow_add-self : goal.overflow_add-self
+overflow_add-self c = search (sum_fits)
 
 pub returns-in-Repeat : goal.returns-in-Repeat
 returns-in-Repeat c = search (after_repeat)

@@ -1,6 +1,6 @@
--- `batch::judge::ours` meets its contract. Assumes nothing.
+-- `batch::Receiver::ours` meets its contract. Assumes nothing.
 use Rattle.batch.proofs.Ways.{ours-particle, ours-close}
-use Rattle.batch.proofs.judge.ours.Goals as goal
+use Rattle.batch.proofs.Receiver.ours.Goals as goal
 
 pub returns-in-Particle : goal.returns-in-Particle
 returns-in-Particle c = search (ours-particle)
