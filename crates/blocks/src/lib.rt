@@ -11,7 +11,7 @@ ghost use Rattle.blocks.specs.Helpers.{block_at, moved, Gives};
 use std::fmt;
 
 /// What sixteen bytes are: not there, none of them zero, all of them zero, or some of each. No Option of three kinds: known_bytes
-/// and 01 name four answers, and the caller, the encoder, asks for two of them.
+/// prints four answers, and the caller, the encoder, asks for two of them.
 #[derive(Clone, Copy, Debug, PartialEq, Eq)]
 pub enum Taken {
     Nothing,

@@ -85,7 +85,7 @@ pub(crate) fn by_sixteen(
     let mut i = from;
     let mut place = to;
     let mut group = opened;
-    // Not a `for`: two places go on together, and any of four tests ends it.
+    // Not a `for`: two places go on together, and any of three tests ends it.
     while 16 <= dest.len() - place {
         if group.code == 0xFF && group.left < 16 {
             break;

@@ -130,7 +130,7 @@ impl DecoderState {
     }
 }
 
-/// `feed` on a copy of the state, for a caller that holds no reference.
+/// `feed` on a copy of the state, for a caller that holds no reference; a public call with a theorem of its own, `unique-fed`.
 pub fn fed(state: DecoderState, data: u8) -> Stepped
     ensures { (result ≡ stepped state «data») × (told_given result.result ≡ given_told state «data») }
 {

@@ -13,7 +13,7 @@ struct Progress {
     pieces: usize,
 }
 
-// The answer, in a column of eleven.
+// The answer, in a column of eleven: demo's words for it, not the type's.
 fn answered(rt: &impl Print, found: Result<Option<Standing>, Refusal>) -> io::Result<()> {
     match found {
         Ok(Some(Standing::Open)) => print!(rt; "Open       "),
@@ -49,7 +49,7 @@ fn line(
     println!(rt; "{count:6} weighed, total {sum:6}{news}")
 }
 
-// What a call said: a piece inside a frame, or the frame's end. A frame that was not sent is called 255.
+// What a call said: a piece inside a frame, or the frame's end. A frame that was not sent is called 255, a number since it is printed as one.
 fn heard(rt: &impl Print, p: Progress, r: Receipt, order: &[u8]) -> io::Result<Progress> {
     let found = r.answer;
     let wire = r.next;
@@ -71,6 +71,7 @@ fn heard(rt: &impl Print, p: Progress, r: Receipt, order: &[u8]) -> io::Result<P
     })
 }
 
+// Buffer, table and order are lent from `main` down, each by itself, as `receive` takes them.
 // A piece: call after call while bytes of it are left; one that takes none passes over one.
 fn take(
     rt: &impl Print,

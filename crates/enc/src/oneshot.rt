@@ -48,7 +48,7 @@ impl From<DestBufTooSmall> for EncodeError {
     }
 }
 
-/// The Rust's panicking name: it refuses as `try_encode` does.
+/// The Rust's panicking name, one of its public calls and so one here: it refuses as `try_encode` does.
 pub fn encode(src: &[u8], dest: &mut [u8]) -> Result<usize, EncodeError>
     ensures answer { told result ≡ encode_told plain src.now (length dest.old) }
     ensures memory { dest.new ≡ encode_dest plain src.now dest.old }
@@ -66,7 +66,7 @@ pub fn try_encode(src: &[u8], dest: &mut [u8]) -> Result<usize, EncodeError>
     Ok(put(src, dest))
 }
 
-/// The Rust's panicking name: it refuses as `try_encode_including_sentinels` does.
+/// The Rust's panicking name, one of its public calls and so one here: it refuses as `try_encode_including_sentinels` does.
 pub fn encode_including_sentinels(src: &[u8], dest: &mut [u8]) -> Result<usize, EncodeError>
     ensures answer { told result ≡ encode_told zeros_around src.now (length dest.old) }
     ensures memory { dest.new ≡ encode_dest zeros_around src.now dest.old }

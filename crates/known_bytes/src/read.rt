@@ -78,6 +78,7 @@ fn signed(word: &str) -> Option<usize> {
     Some(0usize.wrapping_sub(decimal(digits)?))
 }
 
+// By hand: `to_digit` takes A to F too, which a line may not have.
 fn nibble(digit: u8) -> Option<u8>
     ensures { IfSome result (λ n. n < 16) }
 {

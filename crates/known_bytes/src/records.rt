@@ -16,6 +16,7 @@ fn place(n: usize) -> i16 {
     short(n).cast_signed()
 }
 
+// A number, modulo its field's size; so below.
 fn short(n: usize) -> u16 {
     (n % 65_536) as u16
 }

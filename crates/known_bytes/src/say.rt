@@ -14,7 +14,7 @@ pub(crate) fn answer(
     }
 }
 
-/// The same of a call that answers nothing: the word for that.
+/// The same of a call that answers nothing: the word for that, since `()` and `Result` have no `Display`.
 pub(crate) fn done(
     rt: &impl Print,
     word: &str,
@@ -26,7 +26,7 @@ pub(crate) fn done(
     }
 }
 
-/// The same of a call that may want more.
+/// The same of a call that may want more; `Option` has no `Display`.
 pub(crate) fn answer_or_more(
     rt: &impl Print,
     found: Result<Option<impl Display + Drop>, impl Error + Drop>,

@@ -27,8 +27,8 @@ impl fmt::Display for BodyError {
 
 impl Error for BodyError {}
 
-// Copies n bytes down. Tried: the library's `copy_within`, which also asks whether they go up: 3 instructions a group more, which is 13 of
-// 100 of decoding in place where all is zero, and 6 on particle records.
+// Copies n bytes down. Tried: the library's `copy_within`, which also asks whether they go up: 3 instructions a group more, which is 14 of
+// 100 of decoding in place where all is zero, and 7 on particle records.
 fn copy_down(buf: &mut [u8], from: usize, to: usize, n: usize)
     requires { (to ≤ from) × (from + n ≤ length buf.old) }
     ensures { buf.new ≡ paste buf.old to (drop from buf.old) n }

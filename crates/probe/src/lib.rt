@@ -44,6 +44,7 @@ pub extern "C" fn probe_encoder_push(state: &mut [u64], dest: &mut [u8], piece: 
     let encoder = encoder_of(state);
     let enc::stream::Pushed { next, answer } = encoder.push(dest, piece);
     let number = accepted(answer);
+    // By the number, as `push_numbers` of specs/ has it.
     if number != 0 {
         return number;
     }
@@ -77,6 +78,7 @@ pub extern "C" fn probe_decoder_push(
     let decoder = decoder_of(state);
     let dec::stream::Pushed { next, answer } = decoder.push(dest, piece);
     let number = answered(answer, size, consumed);
+    // By the number, as `decode_numbers` of specs/ has it.
     if number == 6 {
         return 6;
     }

@@ -1,5 +1,6 @@
 -- A frame written, one law for each way through `write_frame`. Assumes nothing.
-use Rattle.std.proofs.Common.{Result, Ok, Err, eqb, eqb-true, ◌≡◌, ℕ, ◌+◌, ◌-◌, ◌/◌, ◌<◌, ◌≤◌, Bool, true, false, List, [], ◌∷◌, ◌++◌, length, take, drop, set, sym, refl, ap, ◌∙◌, ap₂, true≢false, append_assoc, arith, length-append, take-append-drop, length-take-le, ltb-false, ltb-true, le-ltb, lt-ltb, if◌then◌else◌}
+use Rattle.std.proofs.Common.{Result, Ok, Err, eqb, eqb-true, ◌≡◌, ℕ, ◌+◌, ◌-◌, ◌/◌, ◌<◌, ◌≤◌, Bool, true, false, List, [], ◌∷◌, ◌++◌, length, take, drop, set, sym, refl, ap, ◌∙◌, ap₂, true≢false, append_assoc, arith}
+use Rattle.std.proofs.Common.{length-append, take-append-drop, length-take-le, ltb-false, ltb-true, le-ltb, lt-ltb, if◌then◌else◌}
 use lib.Seq.{drop-append-le}
 use borrow.Author.Tests.{eqb-false}
 use Rattle.cobs.specs.Words.{◌exceeds◌}

@@ -66,6 +66,7 @@ fn check(message: &[u8]) -> Result<(), FrameError>
     if is_bad_length(message.len()) {
         return Err(FrameError::BadLength);
     }
+    // By number: `read` takes the message and a place.
     for number in 0..message.len() / SIZE {
         if crate::read(message, number * SIZE).is_err() {
             return Err(FrameError::BadRecord(number));

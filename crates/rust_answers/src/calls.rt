@@ -50,10 +50,27 @@ fn sized(number: u8, first: usize) -> Told {
     }
 }
 
-fn encode(src: &[u8], dest: &mut [u8]) -> Told {
-    let mut size = 0;
-    let number = capi::laksovuth_encode(src, dest, &mut size);
-    sized(number, size)
+// What a call answers that puts one value behind an out-parameter.
+fn one<F: FnOnce(&mut usize) -> u8>(call: F) -> Told
+    requires { F.IsAlwaysCallable call }
+{
+    let mut first = 0;
+    let number = call(&mut first);
+    sized(number, first)
+}
+
+// The same of two values.
+fn two<F: FnOnce(&mut usize, &mut usize) -> u8>(call: F) -> Told
+    requires { F.IsAlwaysCallable call }
+{
+    let mut first = 0;
+    let mut second = 0;
+    let number = call(&mut first, &mut second);
+    Told {
+        number,
+        first,
+        second,
+    }
 }
 
 fn try_encode(src: &[u8], dest: &mut [u8]) -> Told {
@@ -62,46 +79,6 @@ fn try_encode(src: &[u8], dest: &mut [u8]) -> Told {
         Err(EncodeError::TooLong) => sized(5, 0),
         Err(EncodeError::DestBufTooSmall) => sized(4, 0),
     }
-}
-
-fn around(src: &[u8], dest: &mut [u8]) -> Told {
-    let mut size = 0;
-    let number = capi::laksovuth_encode_including_sentinels(src, dest, &mut size);
-    sized(number, size)
-}
-
-fn chosen(src: &[u8], dest: &mut [u8], sentinel: u8) -> Told {
-    let mut size = 0;
-    let number = capi::laksovuth_encode_with_sentinel(src, dest, sentinel, &mut size);
-    sized(number, size)
-}
-
-fn decode(src: &[u8], dest: &mut [u8]) -> Told {
-    let mut first = 0;
-    let mut second = 0;
-    let number = capi::laksovuth_decode(src, dest, &mut first, &mut second);
-    Told {
-        number,
-        first,
-        second,
-    }
-}
-
-fn in_place(buf: &mut [u8]) -> Told {
-    let mut first = 0;
-    let mut second = 0;
-    let number = capi::laksovuth_decode_in_place(buf, &mut first, &mut second);
-    Told {
-        number,
-        first,
-        second,
-    }
-}
-
-fn unchosen(src: &[u8], dest: &mut [u8], sentinel: u8) -> Told {
-    let mut size = 0;
-    let number = capi::laksovuth_decode_with_sentinel(src, dest, sentinel, &mut size);
-    sized(number, size)
 }
 
 // Two pieces through an encoder that holds its buffer, finished.
@@ -146,13 +123,21 @@ fn frames(first: &[u8], second: &[u8], dest: &mut [u8]) -> Option<Told> {
 /// The answer to the call that a case asks for; none where the first piece would be longer than the source or ends a frame.
 pub(crate) fn answer(call: Call, src: &[u8], dest: &mut [u8]) -> Option<Told> {
     let told = match call {
-        Call::Encode => encode(src, dest),
+        Call::Encode => one(|size| capi::laksovuth_encode(src, dest, size)),
         Call::TryEncode => try_encode(src, dest),
-        Call::EncodeIncludingSentinels => around(src, dest),
-        Call::EncodeWithSentinel(sentinel) => chosen(src, dest, sentinel),
-        Call::Decode => decode(src, dest),
-        Call::DecodeInPlaceReport => in_place(dest),
-        Call::DecodeWithSentinel(sentinel) => unchosen(src, dest, sentinel),
+        Call::EncodeIncludingSentinels => {
+            one(|size| capi::laksovuth_encode_including_sentinels(src, dest, size))
+        }
+        Call::EncodeWithSentinel(sentinel) => {
+            one(|size| capi::laksovuth_encode_with_sentinel(src, dest, sentinel, size))
+        }
+        Call::Decode => two(|size, parsed| capi::laksovuth_decode(src, dest, size, parsed)),
+        Call::DecodeInPlaceReport => {
+            two(|size, parsed| capi::laksovuth_decode_in_place(dest, size, parsed))
+        }
+        Call::DecodeWithSentinel(sentinel) => {
+            one(|size| capi::laksovuth_decode_with_sentinel(src, dest, sentinel, size))
+        }
         Call::CobsEncoder(cut) => {
             let (first, second) = src.split_at_checked(cut)?;
             pieces(first, second, dest)

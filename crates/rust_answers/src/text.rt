@@ -36,7 +36,7 @@ fn with_digit(n: usize, digit: u8) -> usize {
     n * 10 + (digit % 16) as usize
 }
 
-/// The next word as a decimal number.
+/// The next word as a decimal number; by hand, digit by digit as it is read, since there is no word to parse.
 pub(crate) fn decimal<R: Read + Drop>(input: &mut Bytes<R>) -> io::Result<usize> {
     let mut value: usize = 0;
     for _ in 0..20 {
@@ -49,7 +49,7 @@ pub(crate) fn decimal<R: Read + Drop>(input: &mut Bytes<R>) -> io::Result<usize>
     Ok(value)
 }
 
-// A digit of base 16: 0 to 9 end in their value, a to f in 1 to 6.
+// A digit of base 16: 0 to 9 end in their value, a to f in 1 to 6. By hand, since any byte counts as some digit here.
 fn nibble(digit: u8) -> u8
     ensures { result < 16 }
 {

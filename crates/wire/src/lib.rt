@@ -115,7 +115,8 @@ fn handed(
     }
 }
 
-/// Decodes the piece up to the end of its first frame, and hands that frame to the receiver first.
+/// Decodes the piece up to the end of its first frame, and hands that frame to the receiver first. The states go by value and the three
+/// slices are lent, as 01's form has it.
 pub fn receive(wire: Wire, buffer: &mut [u8], table: &mut [u8], piece: &[u8]) -> Receipt
     ensures { leaves result buffer.new table.new ≡ received accepting (calls wire buffer.old table.old) piece.now }
 {
