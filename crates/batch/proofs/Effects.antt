@@ -151,9 +151,3 @@ unfolding stored
 stored-length Repeat t s = refl
 stored-length (Store i w) t s = copied-length t (slot_at i) s 0
 stored-length (Close c) t s = refl
-
-pub kept-length : (e : Effect) (t : List ℕ) → length (kept_for e t) ≡ 16
-unfolding kept_for
-kept-length Repeat t = refl
-kept-length (Store i w) t = copied-length (replicate 16 0) 0 t (slot_at i)
-kept-length (Close c) t = refl

@@ -90,10 +90,6 @@ pub close-marks : (r : Receiver) (c : held.Close) → (after (Close c) r).marks 
 unfolding after
 close-marks r c = refl
 
-pub close-total : (r : Receiver) (c : held.Close) → (after (Close c) r).total ≡ r.total
-unfolding after
-close-total r c = refl
-
 -- ---- a repeat changes nothing
 
 pub repeat_state : (r : Receiver) → after Repeat r ≡ r

@@ -25,40 +25,18 @@ pub(crate) enum Call {
 impl Call {
     /// The call of that name which takes so many numbers and these parts.
     pub(crate) fn named(words: Words) -> Option<Call> {
-        if let Some(call) = lengths::Call::named(words) {
-            return Some(Call::Lengths(call));
-        }
-        if let Some(call) = tools::Call::named(words) {
-            return Some(Call::Tools(call));
-        }
-        if let Some(call) = encoding::Call::named(words) {
-            return Some(Call::Encoding(call));
-        }
-        if let Some(call) = decoding::Call::named(words) {
-            return Some(Call::Decoding(call));
-        }
-        if let Some(call) = alone::Call::named(words) {
-            return Some(Call::Alone(call));
-        }
-        if let Some(call) = streaming::Call::named(words) {
-            return Some(Call::Streaming(call));
-        }
-        if let Some(call) = feeding::Call::named(words) {
-            return Some(Call::Feeding(call));
-        }
-        if let Some(call) = marking::Call::named(words) {
-            return Some(Call::Marking(call));
-        }
-        if let Some(call) = records::Call::named(words) {
-            return Some(Call::Records(call));
-        }
-        if let Some(call) = batches::Call::named(words) {
-            return Some(Call::Batches(call));
-        }
-        if let Some(call) = wires::Call::named(words) {
-            return Some(Call::Wires(call));
-        }
-        let call = naming::Call::named(words)?;
-        Some(Call::Naming(call))
+        lengths::Call::named(words)
+            .map(Call::Lengths)
+            .or_else(|| tools::Call::named(words).map(Call::Tools))
+            .or_else(|| encoding::Call::named(words).map(Call::Encoding))
+            .or_else(|| decoding::Call::named(words).map(Call::Decoding))
+            .or_else(|| alone::Call::named(words).map(Call::Alone))
+            .or_else(|| streaming::Call::named(words).map(Call::Streaming))
+            .or_else(|| feeding::Call::named(words).map(Call::Feeding))
+            .or_else(|| marking::Call::named(words).map(Call::Marking))
+            .or_else(|| records::Call::named(words).map(Call::Records))
+            .or_else(|| batches::Call::named(words).map(Call::Batches))
+            .or_else(|| wires::Call::named(words).map(Call::Wires))
+            .or_else(|| naming::Call::named(words).map(Call::Naming))
     }
 }
