@@ -58,20 +58,13 @@ module _ (r : Receiver) (n : ℕ) where
       bad-mark h = simp (fits, few, ← em, ← el, ← eb, lt-ltb b m h)
 
       module _ (h3 : m ≤ b) where
-        over : ltb r.slots l ≡ true → true ≡ is_bad r n
+        pub bad-close : r.slots < l → true ≡ is_bad r n
         unfolding is_bad
-        over h = simp (fits, few, ← em, ← el, ← eb, le-ltb b m h3, h)
-
-        pub bad-close : (x : Bool) → x ≡ ltb r.slots l → x ≡ true → x ≡ is_bad r n
-        bad-close x e h = h ∙ over (sym e ∙ h)
+        bad-close h = simp (fits, few, ← em, ← el, ← eb, le-ltb b m h3, lt-ltb r.slots l h)
 
         pub bad-total : l ≤ r.slots → ltb (1000000 * m) r.total ≡ is_bad r n
         unfolding is_bad
         bad-total h = simp (fits, few, ← em, ← el, ← eb, le-ltb b m h3, le-ltb r.slots l h)
-
--- the value of a test that is met
-pub bad-so : {b : Bool} → true ≡ b → (x : Bool) → x ≡ true → x ≡ b
-bad-so e x h = h ∙ e
 
 -- ---- how a batch stands
 

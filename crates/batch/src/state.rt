@@ -17,18 +17,26 @@ impl Receiver {
         }
     }
 
-    // By value: tried by reference, and the proof of the chain does not close.
-    pub(crate) fn is_bad(self, n: usize) -> bool
-        ensures { result ≡ is_bad self n }
+    pub(crate) fn is_bad(&self, n: usize) -> bool
+        ensures { result ≡ is_bad self.now n }
     {
+        // Two tests before anything is counted.
+        if self.slots > crate::slots::room_for(n) {
+            return true;
+        }
+        if self.slots > crate::slots::MOST {
+            return true;
+        }
         let limit = self.limit();
         let marked = marks::count(&self.marks);
         let below = marks::count_below(&self.marks, limit);
-        self.slots > crate::slots::room_for(n)
-            || self.slots > crate::slots::MOST
-            || marked > below
-            || limit > self.slots
-            || self.total > record::MOST_WEIGHT * (marked as u32)
+        if marked > below {
+            return true;
+        }
+        if limit > self.slots {
+            return true;
+        }
+        self.total > record::MOST_WEIGHT * (marked as u32)
     }
 
     pub(crate) fn standing(&self) -> Standing

@@ -184,7 +184,7 @@ module _ (d : List ℕ) (at : ℕ) (s : List ℕ) (from : ℕ) where
       go true false e = absurd (cc)
       go false y e = absurd (cc)
 
-  taken-fits : at + 16 ≤ length d → from + 16 ≤ length s → taken_of d at s from ≡ kind_of (take 16 (drop from s))
+  pub taken-fits : at + 16 ≤ length d → from + 16 ≤ length s → taken_of d at s from ≡ kind_of (take 16 (drop from s))
   unfolding taken_of
   taken-fits h k = rw (le-leb (at + 16) (length d) h, le-leb (from + 16) (length s) k)
 

@@ -84,10 +84,9 @@ pub fn laksovuth_stands(state: &[u64], table: &[u8], missing: &mut usize, total:
         *missing = 0;
         return BAD_STATE;
     };
-    let receiver = states.receiver;
-    let stands = batch::stands(receiver, table);
+    let stands = batch::stands(states.receiver, table);
     if stands.is_ok() {
-        *total = receiver.total as u64;
+        *total = states.receiver.total as u64;
     }
     put_one(stands, missing)
 }

@@ -1,6 +1,6 @@
 -- One byte: the three ways it goes, and what each does to the state and the buffer. Assumes nothing.
 use Rattle.std.specs.Prelude.{Ok, if◌then◌else◌}
-use mathlib.Core.Path.{◌≡◌, refl, ◌∙◌}
+use mathlib.Core.Path.{◌≡◌, refl, ap, ◌∙◌}
 use mathlib.Core.Bool.{Bool, true, false, false≢true}
 use mathlib.Core.List.{List}
 use Prim.Native.Nat.{ℕ, ◌+◌, ◌*◌, ◌≤◌, ◌<◌}
@@ -13,6 +13,7 @@ use Rattle.enc.specs.Stream.{obeyed, closes_full, moved, wrote, finished_length}
 use Rattle.enc.specs.declared.state.EncoderState.{EncoderState}
 use Rattle.enc.specs.declared.state.PushResult.TheVariants.{AddSingle, ModifyFromStartAndSkip, ModifyFromStartAndPushAndSkip}
 use Rattle.enc.specs.declared.state.PushResult.{PushResult}
+use Rattle.enc.specs.declared.state.StatePushed.{StatePushed}
 use Rattle.enc.specs.declared.stream.Encoder.{Encoder}
 use Rattle.enc.proofs.Deciding.{by_eq, neither, Refutes}
 
@@ -45,6 +46,12 @@ sound s =
 pub sound-push : (s : EncoderState) (b : ℕ) → Sound s → state_push s b ≡ asking (Ok (step s b).0) (step s b).1
 unfolding state_push
 sound-push s b g = rw ((sound s).none g)
+
+pub asked-is : (s : EncoderState) (b : ℕ) → Sound s → (p : StatePushed) → p ≡ state_push s b → p.result ≡ Ok (step s b).0
+asked-is s b g p e = ap (λ (q : StatePushed). q.result) (e ∙ sound-push s b g)
+
+pub next-is : (s : EncoderState) (b : ℕ) → Sound s → (p : StatePushed) → p ≡ state_push s b → p.next ≡ (step s b).1
+next-is s b g p e = ap (λ (q : StatePushed). q.next) (e ∙ sound-push s b g)
 
 -- ---- what holds of the three ways holds of a step
 

@@ -4,7 +4,7 @@ ghost use Rattle.cobs.specs.Answers.{longest};
 ghost use Rattle.enc.specs.State.{no_code, state_bad};
 ghost use Rattle.enc.specs.Stream.{fresh, closes_full, obeyed, moved, wrote, move_all, write_all, finished_length, is_bad, started, told_started, start_told, told, push_told, push_next, push_dest, told_finished, finish_told, finish_dest};
 
-use crate::state::{EncoderState, Modify, PushResult};
+use crate::state::{EncoderState, Modify, PushResult, StatePushed};
 use cobs::refusals::{BadState, DestBufTooSmall};
 use std::error::Error;
 use std::fmt;
@@ -191,10 +191,14 @@ impl Encoder {
         ensures memory { dest.new ≡ wrote self byte dest.old }
     {
         let end = self.state.place + self.state.code as usize;
-        let (asked, state) = self.state.step(byte);
+        let StatePushed { result, next } = self.state.push(byte);
+        // A sound state is never refused.
+        let Ok(asked) = result else {
+            return self;
+        };
         let full = obey(asked, dest, end);
         Encoder {
-            state,
+            state: next,
             full,
             count: self.count + 1,
         }

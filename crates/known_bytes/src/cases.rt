@@ -82,25 +82,25 @@ fn long(
     answer(rt, call, held, &zeros[0..length], dest)
 }
 
-fn run_case(rt: &impl Print, case: Case, kept: Kept) -> io::Result<Kept> {
+fn run_case(rt: &impl Print, case: Case, kept: &mut Kept) -> io::Result<()> {
     let Bytes { mut all, len } = case.buffer.unwrap_or(kept.buffer);
     let dest = &mut all[..len];
     let held = match case.message {
         Message::Bytes(m) => answer(rt, case.call, kept.held, &m.all[..m.len], dest)?,
         Message::Zeros(n) => long(rt, case.call, kept.held, n, dest)?,
     };
-    Ok(Kept {
+    *kept = Kept {
         held,
         buffer: Bytes { all, len },
-    })
+    };
+    Ok(())
 }
 
 // The line's case, run.
-fn run_line(rt: &impl Print, line: &[u8], at: usize, kept: Kept) -> io::Result<Kept> {
+fn run_line(rt: &impl Print, line: &[u8], at: usize, kept: &mut Kept) -> io::Result<()> {
     print!(rt; ": ")?;
     let Some(case) = read::read(line) else {
-        print!(rt; "cannot read line {at}")?;
-        return Ok(kept);
+        return print!(rt; "cannot read line {at}");
     };
     run_case(rt, case, kept)
 }
@@ -110,11 +110,11 @@ fn is_heading(line: &[u8]) -> bool {
     matches!(line, [] | [b'#', ..])
 }
 
-/// Writes the line, and the answer after it.
-pub(crate) fn run(rt: &impl Print, line: &[u8], at: usize, kept: Kept) -> io::Result<Kept> {
+/// Writes the line, and the answer after it. What is kept is changed in place: it is 66 KB.
+pub(crate) fn run(rt: &impl Print, line: &[u8], at: usize, kept: &mut Kept) -> io::Result<()> {
     rt.write_all(line)?;
     if is_heading(line) {
-        return Ok(kept);
+        return Ok(());
     }
     run_line(rt, line, at, kept)
 }

@@ -51,7 +51,7 @@ fn lines(rt: &impl Print, text: &[u8]) -> io::Result<()> {
     };
     for (number, line) in (1..).zip(text.split_inclusive(|b| *b == b'\n')) {
         let line = line.strip_suffix(b"\n").unwrap_or(line);
-        kept = cases::run(rt, line, number, kept)?;
+        cases::run(rt, line, number, &mut kept)?;
         println!(rt)?;
     }
     Ok(())

@@ -54,7 +54,8 @@ struct Row {
     byte: u8,
 }
 
-// The words that were read; with no heap, an array of the most numbers.
+// The words that were read; with no heap, an array of the most numbers. A word is added in place: as a value that comes back it
+// copied all the bytes, for a number too.
 #[derive(Clone, Copy)]
 struct Given {
     numbers: [usize; 6],
@@ -120,24 +121,23 @@ impl Bytes {
         }
     }
 
-    // The bytes with that row after them, where it fits.
-    fn with(self, row: Row) -> Option<Bytes> {
-        let len = self.len;
-        if MOST - len < row.count {
+    // That row after the bytes, where it fits.
+    fn add(&mut self, row: Row) -> Option<()> {
+        if MOST - self.len < row.count {
             return None;
         }
-        let to = len + row.count;
-        let mut all = self.all;
-        all[len..to].fill(row.byte);
-        Some(Bytes { all, len: to })
+        let to = self.len + row.count;
+        self.all[self.len..to].fill(row.byte);
+        self.len = to;
+        Some(())
     }
 
-    // The bytes with those that the word says.
-    fn with_word(self, word: &str) -> Option<Bytes> {
+    // Those that the word says, after the bytes.
+    fn add_word(&mut self, word: &str) -> Option<()> {
         if word == "-" {
-            return Some(self);
+            return Some(());
         }
-        self.with(Row::parse(word)?)
+        self.add(Row::parse(word)?)
     }
 }
 
@@ -154,7 +154,9 @@ impl Message {
         if bytes.len == 0 && row.byte == 0 && MOST < row.count && row.count <= MOST_ZEROS {
             return Some(Message::Zeros(row.count));
         }
-        Some(Message::Bytes(bytes.with(row)?))
+        let mut longer = bytes;
+        longer.add(row)?;
+        Some(Message::Bytes(longer))
     }
 }
 
@@ -169,7 +171,7 @@ impl Given {
     }
 
     // One past the most is counted, and not kept.
-    fn add(&mut self, n: usize) {
+    fn add_number(&mut self, n: usize) {
         if let Some(slot) = self.numbers.get_mut(self.count) {
             *slot = n;
         }
@@ -177,22 +179,21 @@ impl Given {
     }
 
     // One word more: of the buffer once `on` has come, and of the message once `of` has.
-    fn with(self, word: &str) -> Option<Given> {
-        let mut next = self;
+    fn add(&mut self, word: &str) -> Option<()> {
         if let Some(buffer) = self.buffer {
-            let longer = buffer.with_word(word)?;
-            next.buffer = Some(longer);
+            let mut longer = buffer;
+            longer.add_word(word)?;
+            self.buffer = Some(longer);
         } else if word == "on" {
-            next.buffer = Some(Bytes::new());
+            self.buffer = Some(Bytes::new());
         } else if let Some(message) = self.message {
-            let longer = message.with_word(word)?;
-            next.message = Some(longer);
+            self.message = Some(message.with_word(word)?);
         } else if word == "of" {
-            next.message = Some(Message::Bytes(Bytes::new()));
+            self.message = Some(Message::Bytes(Bytes::new()));
         } else {
-            next.add(signed(word)?);
+            self.add_number(signed(word)?);
         }
-        Some(next)
+        Some(())
     }
 
     fn parts(&self) -> Parts {
@@ -222,7 +223,7 @@ pub(crate) fn read(line: &[u8]) -> Option<Case> {
     let name = bare(words.next()?);
     let mut given = Given::new();
     for word in words {
-        given = given.with(bare(word))?;
+        given.add(bare(word))?;
     }
     Some(Case {
         call: given.call(name)?,

@@ -106,9 +106,7 @@ fn close_in(taken: u64, count: u64, total: u64) -> Option<Close>
 fn marks_in(numbers: &[u64; 74]) -> [u64; 64]
     ensures { result ≡ drop 10 numbers.now }
 {
-    let mut marks = [0; 64];
-    marks.copy_from_slice(&numbers[10..]);
-    marks
+    numbers[10..].first_chunk().copied().unwrap_or([0; 64])
 }
 
 pub(crate) fn wire_in(numbers: &[u64; 74]) -> Wire

@@ -45,14 +45,14 @@ impl Walk {
         requires place { (self.to ≤ self.from) × (self.from < self.end) }
         ensures { result ≡ past self code }
     {
-        // So many bytes follow the code.
-        let n = code as usize - 1;
-        if self.end - self.from <= n {
+        // The code, and the bytes that follow it.
+        let n = code as usize;
+        if self.end - self.from < n {
             return Err(BodyError::InvalidFrame { decoded: self.to });
         }
         Ok(Walk {
-            from: self.from + 1 + n,
-            to: self.to + n,
+            from: self.from + n,
+            to: self.to + n - 1,
             end: self.end,
         })
     }

@@ -1,31 +1,26 @@
 -- `batch::Receiver::is_bad` meets its contract. Assumes nothing.
-use mathlib.Core.Logic.{inl, inr}
 use native.Mathlib.Omega.{arith}
 use Rattle.marks.proofs.Below.{below_le}
-use Rattle.batch.proofs.Ways.{bad-so, bad-table, bad-slots, bad-mark, bad-close, bad-total}
-use Rattle.batch.proofs.Receiver.is_bad.Goals.{then-marked-below, else-marked-below}
+use Rattle.batch.proofs.Ways.{bad-table, bad-slots, bad-mark, bad-close, bad-total}
 use Rattle.batch.proofs.Receiver.is_bad.Goals as goal
 
-pub overflow_cast-result : goal.overflow_cast-result
-overflow_cast-result c = omega (arith, below_le c.args.self.marks 4096)
+pub returns-then-self-room_for : goal.returns-then-self-room_for
+returns-then-self-room_for c = search (bad-table)
 
-pub overflow_mul-result : goal.overflow_mul-result
-overflow_mul-result c = omega (arith, below_le c.args.self.marks 4096)
+pub returns-then-self-gt-MOST : goal.returns-then-self-gt-MOST
+returns-then-self-gt-MOST c = search (bad-slots)
+
+pub returns-then-marked-below : goal.returns-then-marked-below
+returns-then-marked-below c = search (bad-mark)
 
 pub returns-then-limit-self : goal.returns-then-limit-self
-returns-then-limit-self c =
-    elim c.if-marked-below.branch [
-      | then-marked-below w ↦ elim w.if-marked-below.either [
-        | inl p ↦ search (bad-so (bad-table c.args.self c.args.n _ c.room_for.ensures p))
-        | inr q ↦ elim q [
-          | inl p ↦ search (bad-so (bad-slots c.args.self c.args.n _ c.room_for.ensures p.0 p.1))
-          | inr p ↦ search (bad-so (bad-mark c.args.self c.args.n _ c.room_for.ensures p.0 p.1 _ _ _ c.limit-limit.ensures c.count-marked.ensures c.count_below-below.ensures p.2))
-        ]
-      ]
-      | else-marked-below w ↦
-          let f = w.if-marked-below.false in
-          search (bad-close c.args.self c.args.n _ c.room_for.ensures f.0 f.1 _ _ _ c.limit-limit.ensures c.count-marked.ensures c.count_below-below.ensures f.2)
-    ]
+returns-then-limit-self c = search (bad-close)
 
-pub returns-else-limit-self : goal.returns-else-limit-self
-returns-else-limit-self c = search (bad-total)
+pub overflow_cast-result : goal.overflow_cast-result
+overflow_cast-result c = omega (arith, below_le c.args.self.now.marks 4096)
+
+pub overflow_mul-result : goal.overflow_mul-result
+overflow_mul-result c = omega (arith, below_le c.args.self.now.marks 4096)
+
+pub returns : goal.returns
+returns c = search (bad-total)
